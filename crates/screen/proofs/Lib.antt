@@ -1,0 +1,5 @@
+pub mod WordLaws
+pub mod ListLaws
+pub mod CellLaws
+pub mod FieldLaws
+pub mod EditLaws

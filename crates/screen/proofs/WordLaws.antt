@@ -1,0 +1,147 @@
+-- Laws of the words: choices, tests, scans over numbers, lists by their elements.
+use mathlib.Core.Path.{_≡_, refl, sym, ap, _∙_}
+use mathlib.Core.Bool.{Bool, true, false, _&&_}
+use mathlib.Core.List.{List, [], _∷_}
+use Prim.Native.Nat.{ℕ, zero, suc, _+_, _-_, _≤_, _<_}
+use native.Mathlib.Nat.{add-zero, zero-add, add-suc, suc-add, le-of-suc-le-suc, not-suc-le-zero}
+use native.Mathlib.Numerals.{add-one}
+use native.Mathlib.Omega.{arith}
+use borrow.Author.Tests.{ltb-true, ltb-false}
+use lib.Dec.{ltb}
+use lib.ListN.{length, getD}
+use lib.Seq.{ext-getD}
+use Rattle.screen.specs.Words.{if_then_else_, firstOf, lastOf, tabulate}
+
+-- ---- choices and tests
+
+-- a fact about a choice, from its two arms
+pub either {ℓ ℓ′} : {A : Type ℓ} (P : A → Type ℓ′) (b : Bool) {x y : A} → (b ≡ true → P x) → (b ≡ false → P y) → P (if b then x else y)
+either P true f g = f refl
+either P false f g = g refl
+
+pub true-or-false {ℓ} : {A : Type ℓ} (b : Bool) → (b ≡ true → A) → (b ≡ false → A) → A
+true-or-false true f g = f refl
+true-or-false false f g = g refl
+
+-- a comparison's two cases
+pub less-or-not {ℓ} : {A : Type ℓ} (a b : ℕ) → (a < b → A) → (b ≤ a → A) → A
+less-or-not a b f g = true-or-false (ltb a b) (λ t. f (ltb-true a b t)) (λ t. g (ltb-false a b t))
+
+pub not-both {ℓ} : {A : Type ℓ} (b : Bool) → b ≡ true → b ≡ false → A
+not-both b p q = let z : _≡_ {A = ℕ} 0 1 = cc in absurd (omega arith)
+
+pub and-left : (a b : Bool) → (a && b) ≡ true → a ≡ true
+and-left true b e = refl
+and-left false b e = e
+
+pub and-right : (a b : Bool) → (a && b) ≡ true → b ≡ true
+and-right true b e = e
+and-right false b e = cc
+
+pub both : (a b : Bool) → a ≡ true → b ≡ true → (a && b) ≡ true
+both a b p q = rw (p, q)
+
+pub and-false : (a b : Bool) → b ≡ false → (a && b) ≡ false
+and-false true b e = e
+and-false false b e = refl
+
+-- ---- scans
+
+module _ (test : ℕ → Bool) (none : ℕ) where
+  first-next : (i n : ℕ) → i < n → n - i ≡ suc (n - (i + 1))
+  first-next i n h = omega arith
+
+  -- of the numbers from i up to n: i passes, i does not, there are none
+  pub first-hit : (i n : ℕ) → i < n → test i ≡ true → firstOf test none i (n - i) ≡ i
+  unfolding firstOf
+  first-hit i n h e = rw (first-next i n h, firstOf, e)
+
+  pub first-skip : (i n : ℕ) → i < n → test i ≡ false → firstOf test none i (n - i) ≡ firstOf test none (i + 1) (n - (i + 1))
+  unfolding firstOf
+  first-skip i n h e = rw (first-next i n h, firstOf, e, add-one)
+
+  pub first-end : (i n : ℕ) → n ≤ i → firstOf test none i (n - i) ≡ none
+  unfolding firstOf
+  first-end i n h = let e : n - i ≡ 0 = omega arith in rw (e, firstOf)
+
+  pub first-below : (i n : ℕ) (b : ℕ) → i + n ≤ b → none < b → firstOf test none i n < b
+  unfolding firstOf
+  first-below i zero b h k = k
+  first-below i (suc n) b h k = either (λ o. o < b) (test i) (λ e. omega arith) (λ e. first-below (suc i) n b (omega arith) k)
+
+  pub last-below : (n b : ℕ) → n ≤ b → none < b → lastOf test none n < b
+  unfolding lastOf
+  last-below zero b h k = k
+  last-below (suc n) b h k = either (λ o. o < b) (test n) (λ e. omega arith) (λ e. last-below n b (omega arith) k)
+
+  -- of the n numbers from 0 on: the last passes, the last does not
+  pub last-hit : (n : ℕ) → 0 < n → test (n - 1) ≡ true → lastOf test none n ≡ n - 1
+  unfolding lastOf
+  last-hit zero h e = absurd (omega arith)
+  last-hit (suc n) h e = let k : suc n - 1 ≡ n = omega arith in rw (k, rw k at e)
+
+  pub last-skip : (n : ℕ) → 0 < n → test (n - 1) ≡ false → lastOf test none n ≡ lastOf test none (n - 1)
+  unfolding lastOf
+  last-skip zero h e = absurd (omega arith)
+  last-skip (suc n) h e = let k : suc n - 1 ≡ n = omega arith in rw (k, rw k at e)
+
+  -- what a scan finds passes
+  pub first-passes : (i n : ℕ) → firstOf test none i n < none → test (firstOf test none i n) ≡ true
+  unfolding firstOf
+  first-passes i zero h = absurd (omega arith)
+  first-passes i (suc n) h = either (λ o. o < none → test o ≡ true) (test i) (λ e q. e) (λ e. first-passes (suc i) n) h
+
+  pub last-passes : (n : ℕ) → test none ≡ true → test (lastOf test none n) ≡ true
+  unfolding lastOf
+  last-passes zero h = h
+  last-passes (suc n) h = either (λ o. test o ≡ true) (test n) (λ e. e) (λ e. last-passes n h)
+
+  -- what it goes past does not
+  pub first-past : (i n k : ℕ) → none ≤ i + n → i ≤ k → k < firstOf test none i n → test k ≡ false
+  unfolding firstOf
+  first-past i zero k b h q = absurd (omega arith)
+  first-past i (suc n) k b h q =
+      either (λ o. k < o → test k ≡ false) (test i) (λ e q. absurd (omega arith))
+      (λ e q. less-or-not i k (λ l. first-past (suc i) n k (omega arith) l q) (λ l. let s : k ≡ i = omega arith in rw s e)) q
+
+  pub last-past : (n k : ℕ) → lastOf test none n < k → k < n → test k ≡ false
+  unfolding lastOf
+  last-past zero k q h = absurd (omega arith)
+  last-past (suc n) k q h =
+      either (λ o. o < k → test k ≡ false) (test n) (λ e q. absurd (omega arith))
+      (λ e q. less-or-not k n (λ l. last-past n k q l) (λ l. let s : k ≡ n = omega arith in rw s e)) q
+
+  -- and it answers nothing below its start
+  pub first-above : (i n b : ℕ) → b ≤ i → b ≤ none → b ≤ firstOf test none i n
+  unfolding firstOf
+  first-above i zero b h k = k
+  first-above i (suc n) b h k = either (λ o. b ≤ o) (test i) (λ e. h) (λ e. first-above (suc i) n b (omega arith) k)
+
+-- ---- a list by its elements
+
+-- what stands within a list does not depend on the value for what lies beyond it
+pub getD-within : (xs : List ℕ) (i d e : ℕ) → i < length xs → getD xs i d ≡ getD xs i e
+getD-within [] i d e h = absurd (not-suc-le-zero h)
+getD-within (x ∷ xs) zero d e h = refl
+getD-within (x ∷ xs) (suc i) d e h = getD-within xs i d e (le-of-suc-le-suc h)
+
+module _ (f : ℕ → ℕ) where
+  pub tabulate-length : (i n : ℕ) → length (tabulate f i n) ≡ n
+  unfolding tabulate
+  tabulate-length i zero = refl
+  tabulate-length i (suc n) = ap suc (tabulate-length (suc i) n)
+
+  getD-from : (i n k d : ℕ) → k < n → getD (tabulate f i n) k d ≡ f (i + k)
+  unfolding tabulate
+  getD-from i zero k d h = absurd (not-suc-le-zero h)
+  getD-from i (suc n) zero d h = rw add-zero
+  getD-from i (suc n) (suc k) d h = getD-from (suc i) n k d (le-of-suc-le-suc h) ∙ ap f (suc-add i k ∙ sym (add-suc i k))
+
+  pub getD-tabulate : (n k d : ℕ) → k < n → getD (tabulate f 0 n) k d ≡ f k
+  getD-tabulate n k d h = getD-from 0 n k d h ∙ ap f (zero-add k)
+
+  -- a list of n elements whose element k is f k
+  pub tabulated : (xs : List ℕ) (n d : ℕ) → length xs ≡ n → ((k : ℕ) → k < n → getD xs k d ≡ f k) → xs ≡ tabulate f 0 n
+  tabulated xs n d e h =
+      ext-getD d xs (tabulate f 0 n) (e ∙ sym (tabulate-length 0 n))
+      (λ k q. h k (omega arith) ∙ sym (getD-tabulate n k d (omega arith)))

@@ -1,0 +1,20 @@
+-- `attribute_at` meets its contract: within the slice every value for what lies beyond reads the same byte.
+use borrow.Author.Needs.{needs}
+use native.Mathlib.Omega.{arith}
+use mathlib.Core.Path.{sym}
+use lib.ListN.{List·getD-eq-default}
+use Rattle.screen.proofs.WordLaws.{getD-within}
+use Rattle.screen.proofs.attribute.attribute_at.Statement.{statement}
+use Rattle.screen.proofs.attribute.attribute_at.Tie as tie
+
+shared-slice-read-result : tie.Need-shared-slice-read-result
+shared-slice-read-result c = search needs
+
+returns : tie.Need-returns
+returns c = let a = c .before .before .args in getD-within (a .attrs .now) (a .cell) 0 8 (omega arith)
+
+returns-2 : tie.Need-returns-2
+returns-2 c = let a = c .before .args in sym (List·getD-eq-default (a .attrs .now) 8 {n = a .cell} (omega arith))
+
+pub attribute-at-spec : {M : Type 1} → statement M
+attribute-at-spec = tie.close (tie.spec shared-slice-read-result returns returns-2)

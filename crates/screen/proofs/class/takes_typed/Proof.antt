@@ -1,0 +1,46 @@
+-- `takes_typed` meets its contract: an entry's two bits are the two classes.
+use mathlib.Core.Path.{_≡_, refl}
+use mathlib.Core.Bool.{Bool, true, false}
+use Prim.Native.Nat.{ℕ, _+_, _%_, _/_}
+use lib.Dec.{eqb}
+use borrow.Author.Needs.{needs}
+use borrow.Author.Tests.{ne-eqb}
+use Rattle.screen.specs.Words.{if_then_else_}
+use Rattle.screen.specs.Classes.{alphabetic, numeric, classOf, takes}
+use Rattle.screen.proofs.class.takes_typed.Statement.{statement}
+use Rattle.screen.proofs.class.takes_typed.Tie as tie
+
+bits : (b : ℕ) → (eqb (classOf b % 2) 1 ≡ alphabetic b) × (eqb (classOf b / 2) 1 ≡ numeric b)
+unfolding classOf
+bits b = go (alphabetic b) (numeric b)
+  where
+    go : (p q : Bool) → (eqb (((if p then 1 else 0) + (if q then 2 else 0)) % 2) 1 ≡ p)
+        × (eqb (((if p then 1 else 0) + (if q then 2 else 0)) / 2) 1 ≡ q)
+    go true true = (refl, refl)
+    go true false = (refl, refl)
+    go false true = (refl, refl)
+    go false false = (refl, refl)
+
+class-requires : tie.Need-class-requires
+class-requires c κs = search needs
+
+protection-requires : tie.Need-protection-requires
+protection-requires c κs = search needs
+
+returns : tie.Need-returns
+unfolding takes
+returns c = rw (c .before .before .class .ensures, ← c .before .protection .ensures, c .match .keys1) (bits _ .0)
+
+returns-2 : tie.Need-returns-2
+unfolding takes
+returns-2 c = rw (c .before .before .class .ensures, ← c .before .protection .ensures, c .match .keys2) (bits _ .1)
+
+returns-3 : tie.Need-returns-3
+unfolding takes
+returns-3 c =
+    let r = c .match .rest in
+    rw (← c .before .protection .ensures) (simp (ne-eqb _ _ (r .0 .1), ne-eqb _ _ (r .1)))
+
+pub takes-typed-spec : {M : Type 1} → statement M
+takes-typed-spec =
+    tie.close (tie.spec class-requires protection-requires returns returns-2 returns-3)

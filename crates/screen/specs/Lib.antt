@@ -1,0 +1,7 @@
+pub mod Words
+pub mod Cells
+pub mod Attributes
+pub mod Fields
+pub mod Scans
+pub mod Edits
+pub mod Classes

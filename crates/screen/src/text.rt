@@ -1,0 +1,39 @@
+// The text of a range of cells, as it goes into a reply.
+ghost use mathlib.Core.Path.{_≡_};
+ghost use Prim.Native.Nat.{_+_, _≤_};
+ghost use lib.ListN.{length};
+ghost use lib.Seq.{paste};
+ghost use Rattle.screen.specs.Edits.{Copied};
+use crate::edit::lies_in;
+
+// Copies the first `count` bytes of the text into the reply from `at` on.
+fn copy(text: &[u8], count: usize, reply: &mut [u8], at: usize)
+    requires { ⌜ (count ≤ length (now text)) × (at + count ≤ length (now reply)) ⌝ }
+    ensures { λ _. ⌜ now (reply .exit) ≡ paste (now (reply .entry)) at (now (text .entry)) count ⌝ }
+{
+    let mut i = 0;
+    while i < count {
+        reply[at + i] = text[i];
+        i += 1;
+    }
+}
+
+// Copies the text of a range of cells into the reply from `at` on, and returns the place after it.
+// (Document 01, code places: the part of the character buffer from the cursor on is handed on to be sent.)
+pub fn copy_text(chars: &[u8], from: usize, end: usize, reply: &mut [u8], at: usize) -> usize
+    ensures { λ r. ⌜ Copied from end (now (chars .entry)) (now (reply .entry)) at (now (reply .exit)) r ⌝ }
+{
+    let inside = lies_in(from, end, chars.len());
+    if !inside {
+        return at;
+    }
+    let count = end - from;
+    if reply.len() < count {
+        return at;
+    }
+    if reply.len() - count < at {
+        return at;
+    }
+    copy(&chars[from..], count, reply, at);
+    at + count
+}

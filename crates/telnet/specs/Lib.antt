@@ -1,0 +1,4 @@
+pub mod If
+pub mod Reader
+pub mod Stream
+pub mod Writer

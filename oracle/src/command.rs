@@ -1,0 +1,202 @@
+//! Subcommands: their codes, the check order, and which does what.
+
+use crate::cursor::on_screen;
+use crate::desk::Desk;
+use crate::format;
+use crate::size::{X, Y};
+use crate::variant::Variant;
+use crate::watch::Event;
+
+pub mod code {
+    pub const EDIT_FACILITIES: u8 = 1;
+    pub const ERASE_FACILITIES: u8 = 2;
+    pub const TRANSMIT_FACILITIES: u8 = 3;
+    pub const FORMAT_FACILITIES: u8 = 4;
+    pub const MOVE_CURSOR: u8 = 5;
+    pub const UP: u8 = 8;
+    pub const DOWN: u8 = 9;
+    pub const LEFT: u8 = 10;
+    pub const RIGHT: u8 = 11;
+    pub const HOME: u8 = 12;
+    pub const CHAR_INSERT: u8 = 15;
+    pub const CHAR_DELETE: u8 = 16;
+    pub const READ_CURSOR: u8 = 17;
+    pub const CURSOR_POSITION: u8 = 18;
+    pub const REVERSE_TAB: u8 = 19;
+    pub const TRANSMIT_SCREEN: u8 = 20;
+    pub const TRANSMIT_UNPROTECTED: u8 = 21;
+    pub const TRANSMIT_LINE: u8 = 22;
+    pub const TRANSMIT_FIELD: u8 = 23;
+    pub const TRANSMIT_REST_OF_SCREEN: u8 = 24;
+    pub const TRANSMIT_REST_OF_LINE: u8 = 25;
+    pub const TRANSMIT_REST_OF_FIELD: u8 = 26;
+    pub const DATA_TRANSMIT: u8 = 28;
+    pub const ERASE_SCREEN: u8 = 29;
+    pub const ERASE_LINE: u8 = 30;
+    pub const ERASE_FIELD: u8 = 31;
+    pub const ERASE_REST_OF_SCREEN: u8 = 32;
+    pub const ERASE_REST_OF_LINE: u8 = 33;
+    pub const ERASE_REST_OF_FIELD: u8 = 34;
+    pub const ERASE_UNPROTECTED: u8 = 35;
+    pub const FORMAT_DATA: u8 = 36;
+    pub const REPEAT: u8 = 37;
+    pub const SUPPRESS_PROTECTION: u8 = 38;
+    pub const FIELD_SEPARATOR: u8 = 39;
+    pub const FN: u8 = 40;
+    pub const ERROR: u8 = 41;
+}
+
+pub mod error {
+    pub const UNKNOWN_CODE: u8 = 2;
+    pub const OFF_SCREEN: u8 = 3;
+    pub const TOO_MANY: u8 = 9;
+    pub const TOO_FEW: u8 = 10;
+    pub const BAD_VALUE: u8 = 11;
+    pub const BAD_MAP: u8 = 12;
+}
+
+/// The terminal's own facility maps. Erase: the five partial erasures are
+/// bits 4 to 0.
+const EDIT_MAP: u8 = 54;
+const ERASE_MAP: u8 = 0b1_1111;
+const TRANSMIT_MAP: u8 = 63;
+const FORMAT_MAP: [u8; 2] = [144, 121];
+
+/// How many parameters a code takes; none for an unknown code.
+pub fn parameter_count(code: u8) -> Option<usize> {
+    match code {
+        code::EDIT_FACILITIES..=code::TRANSMIT_FACILITIES | code::SUPPRESS_PROTECTION => Some(1),
+        code::FORMAT_FACILITIES | code::MOVE_CURSOR | code::REPEAT | code::ERROR => Some(2),
+        code::FORMAT_DATA => Some(4),
+        code::UP..=code::HOME => Some(0),
+        code::CHAR_INSERT..=code::READ_CURSOR => Some(0),
+        code::REVERSE_TAB..=code::TRANSMIT_REST_OF_FIELD => Some(0),
+        code::ERASE_SCREEN..=code::ERASE_UNPROTECTED => Some(0),
+        _ => None,
+    }
+}
+
+impl Desk<'_> {
+    /// A subnegotiation's bytes after the option byte.
+    pub fn obey(&mut self, held: &[u8]) {
+        let Some((&code, parameters)) = held.split_first() else {
+            return match self.variant {
+                Variant::NoCommandError2 => self.error(0, error::UNKNOWN_CODE),
+                _ => self.error(0, error::TOO_FEW),
+            };
+        };
+        match self.check(code, parameters) {
+            Ok(()) => {
+                self.saw(Event::Executed(code, parameters));
+                self.execute(code, parameters);
+            }
+            Err(error::OFF_SCREEN) => self.limit(code, parameters),
+            Err(number) => self.error(code, number),
+        }
+    }
+
+    /// The number of the ERROR to draw: code, then count, then values.
+    fn check(&self, code: u8, parameters: &[u8]) -> Result<(), u8> {
+        if self.varies(Variant::CountBeforeCode) && parameters.len() > 4 {
+            return Err(error::TOO_MANY);
+        }
+        let known = parameter_count(code).ok_or(error::UNKNOWN_CODE)?;
+        if self.varies(Variant::Error41Unknown) && code == code::ERROR {
+            return Err(error::UNKNOWN_CODE);
+        }
+        if self.varies(Variant::ValuesBeforeCount) && parameters.len() > known {
+            self.check_values(code, &parameters[..known])?;
+        }
+        let (too_few, too_many) = match self.variant {
+            Variant::Errors9And10Exchanged => (error::TOO_MANY, error::TOO_FEW),
+            _ => (error::TOO_FEW, error::TOO_MANY),
+        };
+        match parameters.len() {
+            count if count < known => Err(too_few),
+            count if count > known => Err(too_many),
+            _ => self.check_values(code, parameters),
+        }
+    }
+
+    /// Of the right number of parameters.
+    fn check_values(&self, code: u8, parameters: &[u8]) -> Result<(), u8> {
+        match (code, parameters) {
+            (code::MOVE_CURSOR, &[x, y]) if !on_screen(&self.screen, X(x), Y(y)) => {
+                Err(error::OFF_SCREEN)
+            }
+            (code::FORMAT_DATA, &[map, more, high, low]) => {
+                format::check(&self.screen, [map, more], [high, low])
+            }
+            (code::REPEAT, &[count, byte]) => format::check_repeat(count, byte, self.variant),
+            (code::SUPPRESS_PROTECTION, &[verb]) => format::check_suppress(verb),
+            _ => Ok(()),
+        }
+    }
+
+    /// MOVE CURSOR off the screen: the one command that acts although it
+    /// draws an ERROR.
+    fn limit(&mut self, code: u8, parameters: &[u8]) {
+        let &[x, y] = parameters else { return };
+        self.saw(Event::Limited(X(x), Y(y)));
+        if !self.varies(Variant::MoveLimitsInSilence) {
+            self.error(code, error::OFF_SCREEN);
+        }
+        let both = x >= self.screen.size.m && y >= self.screen.size.n;
+        if both && self.varies(Variant::MoveTwoErrors) {
+            self.error(code, error::OFF_SCREEN);
+        }
+        if !self.varies(Variant::MoveErrorStays) {
+            self.screen.move_to(X(x), Y(y));
+        }
+    }
+
+    fn error(&mut self, code: u8, number: u8) {
+        self.saw(Event::Error(code, number));
+        if number == error::UNKNOWN_CODE && self.varies(Variant::UnknownInSilence) {
+            return;
+        }
+        self.reply.subcommand(&[code::ERROR, code, number]);
+    }
+
+    fn execute(&mut self, code: u8, parameters: &[u8]) {
+        match (code, parameters) {
+            (code::EDIT_FACILITIES..=code::FORMAT_FACILITIES, _) => self.facilities(code),
+            (code::MOVE_CURSOR, &[x, y]) => self.screen.move_to(X(x), Y(y)),
+            (code::UP, _) => self.screen.up(),
+            (code::DOWN, _) => self.screen.down(),
+            (code::LEFT, _) => self.screen.left(),
+            (code::RIGHT, _) => self.screen.right(),
+            (code::HOME, _) => self.screen.home(),
+            (code::CHAR_INSERT, _) => self.screen.insert(),
+            (code::CHAR_DELETE, _) => self.screen.delete(),
+            (code::READ_CURSOR, _) => self.read_cursor(),
+            (code::REVERSE_TAB, _) => self.screen.reverse_tab(),
+            (code::TRANSMIT_SCREEN..=code::TRANSMIT_REST_OF_FIELD, _) => self.transmit(code),
+            (code::ERASE_SCREEN..=code::ERASE_UNPROTECTED, _) => self.screen.erase(code),
+            (code::FORMAT_DATA, &[map, _, high, low]) => self.screen.format(map, [high, low]),
+            (code::REPEAT, &[count, byte]) => self.screen.repeat(count, byte),
+            (code::SUPPRESS_PROTECTION, &[verb]) => self.suppress(verb),
+            // ERROR from the host has no effect.
+            _ => {}
+        }
+    }
+
+    fn facilities(&mut self, code: u8) {
+        let erase = match self.variant {
+            Variant::EraseMapShifted => ERASE_MAP << 1,
+            _ => ERASE_MAP,
+        };
+        match code {
+            code::EDIT_FACILITIES => self.reply.subcommand(&[code, EDIT_MAP]),
+            code::ERASE_FACILITIES => self.reply.subcommand(&[code, erase]),
+            code::TRANSMIT_FACILITIES => self.reply.subcommand(&[code, TRANSMIT_MAP]),
+            _ => self.reply.subcommand(&[code, FORMAT_MAP[0], FORMAT_MAP[1]]),
+        }
+    }
+
+    fn read_cursor(&mut self) {
+        let cursor = self.screen.cursor;
+        self.reply
+            .subcommand(&[code::CURSOR_POSITION, cursor.x.0, cursor.y.0]);
+    }
+}

@@ -1,0 +1,164 @@
+//! Counts what a script exercises.
+
+mod classify;
+mod situation;
+mod table;
+
+use std::io::{self, BufRead};
+
+use crate::command::code;
+use crate::refusal::Refusal;
+use crate::replay::{next_line, Replay};
+use crate::screen::Screen;
+use crate::script::Line;
+use crate::size::Size;
+use crate::telnet::Phase;
+use crate::terminal::Outcome;
+use crate::variant::Variant;
+use crate::watch::{Event, Watch};
+use situation::Situation;
+
+const REFUSALS: usize = 10;
+const ERRORS: usize = 13;
+
+/// Every count starts at 0; the table asks that each rises.
+pub struct Cover {
+    executed: [u64; 256],
+    /// 38 by its parameter.
+    suppress: [u64; 256],
+    errors: [[u64; 256]; ERRORS],
+    open_refused: [u64; REFUSALS],
+    host_refused: [u64; REFUSALS],
+    key_taken: [u64; 256],
+    key_refused: [[u64; 256]; REFUSALS],
+    phases: Vec<(&'static str, u64)>,
+    situations: Vec<u64>,
+}
+
+/// A line that is no line of a script, by its number.
+pub struct BadLine(pub usize);
+
+/// Runs a whole script.
+pub fn script(input: &mut impl BufRead) -> io::Result<Result<Cover, BadLine>> {
+    let (mut cover, mut replay) = (Cover::new(), Replay::new(Variant::None));
+    let (mut bytes, mut number) = (Vec::new(), 0);
+    while next_line(input, &mut bytes)? {
+        number += 1;
+        match Line::parse(&bytes) {
+            Some(line) => cover.run(&mut replay, &line),
+            None => return Ok(Err(BadLine(number))),
+        }
+    }
+    Ok(Ok(cover))
+}
+
+impl Default for Cover {
+    fn default() -> Cover {
+        Cover::new()
+    }
+}
+
+impl Cover {
+    pub fn new() -> Cover {
+        Cover {
+            executed: [0; 256],
+            suppress: [0; 256],
+            errors: [[0; 256]; ERRORS],
+            open_refused: [0; REFUSALS],
+            host_refused: [0; REFUSALS],
+            key_taken: [0; 256],
+            key_refused: [[0; 256]; REFUSALS],
+            phases: table::PHASES.map(|name| (name, 0)).to_vec(),
+            situations: vec![0; Situation::ALL.len()],
+        }
+    }
+
+    pub fn run(&mut self, replay: &mut Replay, line: &Line) {
+        let Some(outcome) = replay.run(line, self) else {
+            return;
+        };
+        match (line, outcome.refusal) {
+            (Line::Host(input, room), None) => self.host_done(replay, outcome, input, *room),
+            (Line::Host(..), Some(refusal)) => raise(&mut self.host_refused, refusal),
+            (Line::Key(key, room), None) => self.key_done(replay, *key, *room),
+            (Line::Key(key, _), Some(refusal)) => self.key_refused(*key, refusal),
+            (_, None) => self.count(Situation::Opened),
+            (_, Some(refusal)) => raise(&mut self.open_refused, refusal),
+        }
+    }
+
+    fn count(&mut self, situation: Situation) {
+        self.situations[situation as usize] += 1;
+    }
+
+    fn count_if(&mut self, is: bool, situation: Situation) {
+        self.situations[situation as usize] += u64::from(is);
+    }
+
+    fn host_done(&mut self, replay: &Replay, outcome: Outcome, input: &[u8], room: usize) {
+        let session = &replay.terminal.session;
+        let exact = room == session.size.room();
+        self.count_if(input.is_empty(), Situation::NoBytes);
+        self.count_if(outcome.taken < input.len(), Situation::FewerTaken);
+        self.count_if(exact, Situation::HostRoomExact);
+        self.count_if(
+            session.size == Size { m: 132, n: 64 },
+            Situation::LargestScreen,
+        );
+        self.count_if(
+            outcome.written + session.size.room() == room,
+            Situation::FreeExact,
+        );
+        self.count_phase(session.reader.phase);
+    }
+
+    fn count_phase(&mut self, phase: Phase) {
+        let name = crate::replay::phase_name(phase);
+        let found = self.phases.iter_mut().find(|(known, _)| *known == name);
+        if let Some((_, count)) = found {
+            *count += 1;
+        }
+    }
+
+    fn key_done(&mut self, replay: &Replay, key: u8, room: usize) {
+        let exact = room == replay.terminal.session.size.room();
+        self.count_if(exact, Situation::KeyRoomExact);
+        self.key_taken[usize::from(key)] += 1;
+    }
+
+    fn key_refused(&mut self, key: u8, refusal: Refusal) {
+        self.key_refused[usize::from(refusal.number())][usize::from(key)] += 1;
+    }
+
+    fn executed(&mut self, code: u8, parameters: &[u8], screen: &Screen) {
+        self.executed[usize::from(code)] += 1;
+        if let (code::SUPPRESS_PROTECTION, &[verb]) = (code, parameters) {
+            self.suppress[usize::from(verb)] += 1;
+        }
+        self.command(code, parameters, screen);
+    }
+
+    fn error(&mut self, code: u8, number: u8) {
+        self.errors[usize::from(number)][usize::from(code)] += 1;
+        self.count_if(code == 255, Situation::ErrorNames255);
+    }
+}
+
+fn raise(counts: &mut [u64; REFUSALS], refusal: Refusal) {
+    counts[usize::from(refusal.number())] += 1;
+}
+
+impl Watch for Cover {
+    fn saw(&mut self, event: Event, screen: &Screen, det: bool) {
+        match event {
+            Event::Data(byte) => self.data(byte, screen),
+            Event::Negotiation(verb, option) => self.negotiation(verb, option, screen, det),
+            Event::Subnegotiation(option, count) => self.subnegotiation(option, count, det),
+            Event::ThrownAway => self.count(Situation::ThrownAway),
+            Event::Executed(code, parameters) => self.executed(code, parameters, screen),
+            Event::Error(code, number) => self.error(code, number),
+            Event::Limited(x, y) => self.limited(x, y, screen),
+            Event::Key(key) => self.key(key, screen),
+        }
+    }
+}

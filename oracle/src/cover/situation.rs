@@ -1,0 +1,126 @@
+//! Situations worth reaching, each with its label in the table.
+
+macro_rules! situations {
+    ($($case:ident $label:literal;)*) => {
+        #[derive(Clone, Copy)]
+        pub enum Situation {
+            $($case,)*
+        }
+
+        impl Situation {
+            pub const ALL: &'static [(Situation, &'static str)] =
+                &[$((Situation::$case, $label),)*];
+        }
+    };
+}
+
+situations! {
+    Opened "open done";
+    NoBytes "host call without bytes";
+    FewerTaken "host call that took fewer bytes than it was given";
+    HostRoomExact "host call with room for one reply exactly";
+    FreeExact "host call that left room for one reply exactly";
+    LargestScreen "host call on a screen of 132 by 64";
+    KeyRoomExact "key with room for one reply exactly";
+
+    Do20Off "DO 20 while off";
+    Do20On "DO 20 while on";
+    DoOther "DO of another option";
+    Do255 "DO 255";
+    Dont20On "DONT 20 while on";
+    Dont20Suppressed "DONT 20 while on and suppressed";
+    Dont20Off "DONT 20 while off";
+    Dont20OffSuppressed "DONT 20 while off and suppressed";
+    DontOther "DONT of another option";
+    Will20 "WILL 20";
+    WillOther "WILL of another option";
+    Will255 "WILL 255";
+    Wont20 "WONT 20";
+    WontOther "WONT of another option";
+
+    ThrownAway "subnegotiation thrown away";
+    NoOption "subnegotiation without an option byte";
+    OtherOption "subnegotiation of another option";
+    Option255 "subnegotiation of option 255";
+    DetOff "subnegotiation of 20 while DET is off";
+    NoCommand "subnegotiation of 20 without a command byte";
+    SixHeld "subnegotiation with six bytes held";
+    ErrorNames255 "ERROR that names command 255";
+
+    HostWritten "host character written";
+    HostDropped "host character dropped";
+    HostLast "host character written in the last cell";
+    HostClass "host character against the cell's class";
+    HostSuppressed "host character on a protected cell while suppressed";
+    Cr "CR";
+    Lf "LF";
+    LfLast "LF on the last line";
+    Bs "BS";
+    BsStart "BS at x = 0";
+    Data255 "data byte 255";
+    IdleData "other data byte";
+
+    LimitedX "MOVE CURSOR limited in x";
+    LimitedY "MOVE CURSOR limited in y";
+    LimitedBoth "MOVE CURSOR limited in both";
+    EdgeUp "8 at the edge";
+    EdgeDown "9 at the edge";
+    EdgeLeft "10 at the edge";
+    EdgeRight "11 at the edge";
+    HomeSought "12 past protected cells";
+    HomeNone "12 with no unprotected cell";
+    HomeSuppressed "12 while suppressed and (0,0) is protected";
+    ShiftGuarded "15 or 16 on a guarded cell";
+    ShiftToField "15 or 16 to the field's end";
+    ShiftToLine "15 or 16 to the line's end within a field";
+    ShiftSuppressed "15 or 16 past a field's end while suppressed";
+    TabBackFound "19 with a field before the cursor";
+    TabBackAtStart "19 from a field's start";
+    TabBackNone "19 with no field before the cursor";
+    TabBackSuppressed "19 with a field before the cursor while suppressed";
+
+    UnprotectedNone "21 without fields";
+    UnprotectedOne "21 with one field";
+    UnprotectedMany "21 with several fields";
+    UnprotectedJoined "21 with two fields side by side";
+    UnprotectedSuppressed "21 with a protected field while suppressed";
+    LineLast "22 on the last line";
+    LineGuarded "22 from a guarded cell";
+    FieldGuarded "23 or 26 on a guarded cell";
+    FieldGuardedInside "23 inside a guarded field";
+    FieldInside "23 or 26 inside a field";
+    FieldCrosses "23 or 26 in a field that crosses a line's end";
+    FieldSuppressed "23 or 26 on a protected cell while suppressed";
+    EraseGuarded "30 to 34 on a guarded cell";
+    EraseSuppressed "30 to 34 on a protected cell while suppressed";
+    Erase35Suppressed "35 with a protected cell while suppressed";
+    Erase35None "35 with no unprotected cell";
+
+    FormatNone "36 of no cells";
+    FormatAll "36 of all cells that remain";
+    FormatGuarded "36 on a guarded cell";
+    RepeatNone "37 no times";
+    RepeatLast "37 in the last cell";
+    RepeatStopped "37 stopped by a guarded cell";
+    SuppressBegun "38 with 253 that changes";
+    SuppressAgain "38 with 253 that does not change";
+    SuppressEnded "38 with 254 that changes";
+    SuppressEndedAgain "38 with 254 that does not change";
+
+    TypedOn "typed, next cell open";
+    TypedSkips "typed, guarded cells skipped";
+    TypedStays "typed, no open cell after";
+    TypedAlphabetic "typed in an alphabetic cell";
+    TypedNumeric "typed in a numeric cell";
+    TypedProtected "typed in a protected cell while suppressed";
+    TypedAnyClass "typed against the class while suppressed";
+    BackSkips "key 8, guarded cells skipped";
+    BackLine "key 8 to the line before";
+    BackStays "key 8 with no open cell before";
+    TabOn "key 9 to a field after the cursor";
+    TabWraps "key 9 to the first field";
+    TabStays "key 9 without fields";
+    TabSuppressed "key 9 with a protected field while suppressed";
+    SendNone "key 13 without fields";
+    SendMany "key 13 with several fields";
+}

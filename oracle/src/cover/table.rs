@@ -1,0 +1,152 @@
+//! The table of counts, and what is missing in it.
+
+use std::fmt;
+
+use super::situation::Situation;
+use super::Cover;
+use crate::command::{code, error, parameter_count};
+
+pub const PHASES: [&str; 10] = [
+    "data", "iac", "will", "wont", "do", "dont", "sb", "sb-iac", "sub", "sub-iac",
+];
+
+/// Rows in the order in which they are printed.
+#[derive(Default)]
+struct Rows(Vec<(String, u64)>);
+
+impl Rows {
+    fn row(&mut self, label: impl Into<String>, count: u64) {
+        self.0.push((label.into(), count));
+    }
+
+    /// One row for many values: the count of the least exercised one.
+    fn least(&mut self, label: &str, counts: &[u64; 256], values: impl Iterator<Item = u8>) {
+        let least = values
+            .map(|value| (counts[usize::from(value)], value))
+            .min();
+        if let Some((count, value)) = least {
+            self.row(format!("{label} (least: {value})"), count);
+        }
+    }
+
+    /// One row for many values: the sum of their counts.
+    fn sum(&mut self, label: &str, counts: &[u64; 256], values: impl Iterator<Item = u8>) {
+        let sum = values.map(|value| counts[usize::from(value)]).sum();
+        self.row(label, sum);
+    }
+}
+
+fn known_codes() -> impl Iterator<Item = u8> {
+    (0..=255).filter(|&code| parameter_count(code).is_some())
+}
+
+fn meaningless_keys() -> impl Iterator<Item = u8> {
+    (0..=255).filter(|key| !matches!(key, 8 | 9 | 13 | 32..=143))
+}
+
+impl Cover {
+    fn rows(&self) -> Rows {
+        let mut rows = Rows::default();
+        self.command_rows(&mut rows);
+        self.error_rows(&mut rows);
+        self.refusal_rows(&mut rows);
+        self.key_rows(&mut rows);
+        for (name, count) in &self.phases {
+            rows.row(format!("host call that ended in phase {name}"), *count);
+        }
+        for (situation, label) in Situation::ALL {
+            rows.row(*label, self.situations[*situation as usize]);
+        }
+        rows
+    }
+
+    fn command_rows(&self, rows: &mut Rows) {
+        for code in known_codes().filter(|&code| code != code::SUPPRESS_PROTECTION) {
+            rows.row(
+                format!("code {code} executed"),
+                self.executed[usize::from(code)],
+            );
+        }
+        for verb in 251..=254 {
+            rows.row(format!("code 38 {verb} executed"), self.suppress[verb]);
+        }
+    }
+
+    fn error_rows(&self, rows: &mut Rows) {
+        let by = |number: u8| &self.errors[usize::from(number)];
+        let unknown = (0..=255).filter(|&code| parameter_count(code).is_none());
+        rows.least(
+            "ERROR 2 by each unknown code",
+            by(error::UNKNOWN_CODE),
+            unknown,
+        );
+        rows.row("ERROR 3 by code 5", by(error::OFF_SCREEN)[5]);
+        for code in known_codes() {
+            let count = by(error::TOO_MANY)[usize::from(code)];
+            rows.row(format!("ERROR 9 by code {code}"), count);
+        }
+        for code in known_codes().filter(|&code| parameter_count(code) != Some(0)) {
+            let count = by(error::TOO_FEW)[usize::from(code)];
+            rows.row(format!("ERROR 10 by code {code}"), count);
+        }
+        rows.row("ERROR 10 by no code", by(error::TOO_FEW)[0]);
+        for code in [36, 37, 38] {
+            rows.row(
+                format!("ERROR 11 by code {code}"),
+                by(error::BAD_VALUE)[code],
+            );
+        }
+        rows.row("ERROR 12 by code 36", by(error::BAD_MAP)[36]);
+    }
+
+    fn refusal_rows(&self, rows: &mut Rows) {
+        for number in 1..=2 {
+            rows.row(format!("open refused {number}"), self.open_refused[number]);
+        }
+        for number in 1..=5 {
+            rows.row(format!("host refused {number}"), self.host_refused[number]);
+        }
+        for number in 1..=9 {
+            let count = self.key_refused[number].iter().sum();
+            rows.row(format!("key refused {number}"), count);
+        }
+    }
+
+    fn key_rows(&self, rows: &mut Rows) {
+        let refused = &self.key_refused;
+        for key in [8, 9, 13, 127] {
+            rows.row(format!("key {key} taken"), self.key_taken[key]);
+        }
+        rows.least("each key 32 to 126 taken", &self.key_taken, 32..=126);
+        rows.least("each key 128 to 143 taken", &self.key_taken, 128..=143);
+        rows.least(
+            "each key without meaning refused 9",
+            &refused[9],
+            meaningless_keys(),
+        );
+        rows.sum("keys 32 to 126 refused 6", &refused[6], 32..=126);
+        rows.sum("keys 32 to 126 refused 7", &refused[7], 32..=126);
+        rows.sum("key 127 refused 6", &refused[6], 127..=127);
+        rows.sum("key 13 refused 8", &refused[8], 13..=13);
+        rows.least("each key 128 to 143 refused 8", &refused[8], 128..=143);
+    }
+
+    /// The labels whose count is zero.
+    pub fn missing(&self) -> Vec<String> {
+        let rows = self.rows().0.into_iter();
+        rows.filter(|row| row.1 == 0).map(|row| row.0).collect()
+    }
+}
+
+impl fmt::Display for Cover {
+    fn fmt(&self, f: &mut fmt::Formatter) -> fmt::Result {
+        for (label, count) in self.rows().0 {
+            writeln!(f, "{count:9}  {label}")?;
+        }
+        let missing = self.missing();
+        if !missing.is_empty() {
+            writeln!(f, "missing: {}", missing.join("; "))?;
+        }
+        Ok(())
+    }
+}

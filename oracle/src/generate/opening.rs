@@ -1,0 +1,133 @@
+//! Opens, taken and refused, and what follows a taken one.
+
+use super::Generator;
+use crate::script::Line;
+use crate::size::Size;
+use crate::telnet::{Verb, IAC};
+
+/// Sizes past their range by one or by much.
+const BAD_SIZES: [(u16, u16); 10] = [
+    (0, 1),
+    (1, 0),
+    (0, 0),
+    (133, 1),
+    (1, 65),
+    (133, 64),
+    (132, 65),
+    (256, 2),
+    (2, 257),
+    (65_535, 65_535),
+];
+
+/// Rare, since each answer prints the whole screen.
+const LARGE_SIZES: [Size; 9] = [
+    Size { m: 132, n: 64 },
+    Size { m: 132, n: 64 },
+    Size { m: 131, n: 63 },
+    Size { m: 132, n: 1 },
+    Size { m: 1, n: 64 },
+    Size { m: 80, n: 24 },
+    Size { m: 17, n: 17 },
+    Size { m: 40, n: 3 },
+    Size { m: 3, n: 33 },
+];
+
+impl Generator {
+    /// Calls on the session that stands before any open.
+    pub fn before_open(&mut self) {
+        self.size = Size { m: 1, n: 1 };
+        self.push(Line::State);
+        self.probe();
+    }
+
+    /// A call that finds no usable session.
+    fn probe(&mut self) {
+        match self.rng.below(3) {
+            0 => self.send(vec![b'A'], 1),
+            1 => self.press(b'A'),
+            _ => self.press(0),
+        }
+    }
+
+    pub fn refused_open(&mut self) {
+        let (m, n) = self.rng.pick(&BAD_SIZES);
+        let cells = usize::from(m) * usize::from(n);
+        let (chars, attrs) = match self.rng.below(5) {
+            0 | 1 => (cells, cells),
+            2 => (self.rng.below(9), self.rng.below(9)),
+            _ => return self.open_wrong_buffers(),
+        };
+        let (chars, attrs) = (chars.min(8_448), attrs.min(8_448));
+        self.push(Line::Open { m, n, chars, attrs });
+        self.after_refused_open();
+    }
+
+    fn open_wrong_buffers(&mut self) {
+        let size = self.small_size();
+        let cells = size.cells();
+        let other = self.rng.pick(&[0, cells - 1, cells + 1, 2 * cells]);
+        let (chars, attrs) = match self.rng.below(3) {
+            0 => (other, cells),
+            1 => (cells, other),
+            _ => (other, other),
+        };
+        let (m, n) = (size.m.into(), size.n.into());
+        self.push(Line::Open { m, n, chars, attrs });
+        self.after_refused_open();
+    }
+
+    /// Buffers of no length let refusal 1 stand alone.
+    fn after_refused_open(&mut self) {
+        self.size = Size { m: 1, n: 1 };
+        if self.rng.once_in(3) {
+            self.push(Line::Chars(Vec::new()));
+            self.push(Line::Attrs(Vec::new()));
+        }
+        for _ in 0..self.rng.below(3) {
+            self.probe();
+        }
+    }
+
+    pub fn open(&mut self) {
+        self.size = match self.rng.below(30) {
+            0 => self.rng.pick(&LARGE_SIZES),
+            _ => self.small_size(),
+        };
+        let cells = self.size.cells();
+        let (m, n) = (self.size.m.into(), self.size.n.into());
+        self.push(Line::Open {
+            m,
+            n,
+            chars: cells,
+            attrs: cells,
+        });
+    }
+
+    fn small_size(&mut self) -> Size {
+        let (m, n) = match self.rng.weighted(&[2, 2, 3, 10, 4]) {
+            0 => (1, 1),
+            1 => (1, self.rng.within(2, 7)),
+            2 => (self.rng.within(2, 12), 1),
+            3 => (self.rng.within(2, 9), self.rng.within(2, 4)),
+            _ => (8, 2),
+        };
+        Size {
+            m: m as u8,
+            n: n as u8,
+        }
+    }
+
+    /// DET on, as a rule, and a form on the screen.
+    pub fn set_up(&mut self) {
+        match self.rng.below(8) {
+            0 => {}
+            1 => self.push(Line::Det(true)),
+            _ => self.send(vec![IAC, Verb::Do.byte(), 20], 1),
+        }
+        match self.rng.below(5) {
+            0 => {}
+            1 | 2 => self.set_attrs(),
+            _ => self.paint(),
+        }
+    }
+}

@@ -1,0 +1,84 @@
+//! The operator's keys.
+
+use crate::class;
+use crate::command::code;
+use crate::desk::Desk;
+use crate::screen::protection;
+use crate::variant::Variant;
+use crate::watch::Event;
+
+#[derive(Clone, Copy, Debug, PartialEq, Eq)]
+pub enum Key {
+    Typed(u8),
+    Back,
+    Tab,
+    Send,
+    Delete,
+    /// With the number that FN sends.
+    Function(u8),
+}
+
+impl Key {
+    /// None for a key without a meaning.
+    pub fn meaning(key: u8, variant: Variant) -> Option<Key> {
+        match (key, variant) {
+            (127, Variant::Key127NoMeaning) => None,
+            (128, Variant::Key128NoMeaning) => None,
+            (143, Variant::Key143NoMeaning) => None,
+            (144, Variant::Key144Function) => Some(Key::Function(17)),
+            (128..=143, Variant::FunctionLess128) => Some(Key::Function(key - 128)),
+            (8, _) => Some(Key::Back),
+            (9, _) => Some(Key::Tab),
+            (13, _) => Some(Key::Send),
+            (32..=126, _) => Some(Key::Typed(key)),
+            (127, _) => Some(Key::Delete),
+            (128..=143, _) => Some(Key::Function(key - 127)),
+            _ => None,
+        }
+    }
+
+    /// Refused with 8 while DET is off.
+    pub fn needs_det(self, variant: Variant) -> bool {
+        match self {
+            Key::Send => variant != Variant::SendWithoutDet,
+            Key::Function(_) => true,
+            Key::Delete => variant == Variant::DeleteNeedsDet,
+            _ => false,
+        }
+    }
+
+    /// Refused with 6 on a guarded cell.
+    pub fn changes_cell(self) -> bool {
+        matches!(self, Key::Typed(_) | Key::Delete)
+    }
+
+    /// Refused with 7 otherwise.
+    pub fn fits(self, attr: u8, suppressed: bool, variant: Variant) -> bool {
+        let tested = !suppressed || variant == Variant::ClassWhileSuppressed;
+        match self {
+            Key::Typed(byte) if tested => class::takes(protection::of(attr), byte, variant),
+            _ => true,
+        }
+    }
+}
+
+impl Desk<'_> {
+    /// A key that nothing refuses.
+    pub fn press(&mut self, key: u8, meaning: Key) {
+        self.saw(Event::Key(key));
+        match meaning {
+            Key::Typed(byte) => self.type_in(byte),
+            Key::Back => self.screen.previous_open(),
+            Key::Tab => self.screen.tab(),
+            Key::Send => self.transmit_unprotected(),
+            Key::Delete => self.screen.delete(),
+            Key::Function(number) => self.reply.subcommand(&[code::FN, number]),
+        }
+    }
+
+    fn type_in(&mut self, byte: u8) {
+        let cell = self.screen.at();
+        self.screen.chars[cell] = byte;
+        self.screen.next_open();
+    }
+}

@@ -1,0 +1,32 @@
+//! The terminal end of a Telnet connection with option 20 (DET), written to
+//! be compared with another one. The modules stand in the scope's order.
+
+pub mod size;
+
+pub mod refusal;
+pub mod session;
+pub mod terminal;
+
+pub mod reply;
+pub mod telnet;
+
+pub mod cursor;
+pub mod screen;
+
+pub mod command;
+pub mod desk;
+pub mod erase;
+pub mod format;
+pub mod transmit;
+
+pub mod class;
+pub mod key;
+
+pub mod replay;
+pub mod script;
+
+pub mod cover;
+pub mod generate;
+pub mod rng;
+pub mod variant;
+pub mod watch;

@@ -1,0 +1,157 @@
+//! The three operations: open, host bytes, one key.
+
+use crate::desk::Desk;
+use crate::key::Key;
+use crate::refusal::{self, Refusal};
+use crate::session::Session;
+use crate::size::Size;
+use crate::variant::Variant;
+use crate::watch::Watch;
+
+/// A session, and beside it the rule that is changed, if any.
+#[derive(Clone, Debug, Default)]
+pub struct Terminal {
+    pub session: Session,
+    pub variant: Variant,
+}
+
+/// The memory that the caller lends for one call.
+pub struct Lent<'a> {
+    pub chars: &'a mut [u8],
+    pub attrs: &'a mut [u8],
+    pub reply: &'a mut [u8],
+}
+
+#[derive(Clone, Copy, Debug, Default, PartialEq, Eq)]
+pub struct Outcome {
+    pub refusal: Option<Refusal>,
+    pub taken: usize,
+    pub written: usize,
+}
+
+impl Outcome {
+    fn refused(refusal: Refusal) -> Outcome {
+        Outcome {
+            refusal: Some(refusal),
+            ..Outcome::default()
+        }
+    }
+}
+
+impl Terminal {
+    pub fn new(variant: Variant) -> Terminal {
+        Terminal {
+            session: Session::default(),
+            variant,
+        }
+    }
+
+    pub fn open(&mut self, m: u16, n: u16, chars: &mut [u8], attrs: &mut [u8]) -> Outcome {
+        self.session = Session::default();
+        let size = Size::new(m, n);
+        let cells = usize::from(m) * usize::from(n);
+        let refusal = refusal::first(self.variant, |refusal| match refusal {
+            Refusal::Size => size.is_none(),
+            Refusal::Buffers => chars.len() != cells || attrs.len() != cells,
+            _ => false,
+        });
+        if let Some(refusal) = refusal {
+            return Outcome::refused(refusal);
+        }
+        chars.fill(b' ');
+        attrs.fill(0);
+        self.session.size = size.unwrap_or_default();
+        Outcome::default()
+    }
+
+    /// Takes bytes from the front while the longest reply would still fit.
+    pub fn host(&mut self, lent: Lent, input: &[u8], watch: &mut dyn Watch) -> Outcome {
+        let refusal = refusal::first(self.variant, |refusal| self.unfit(&lent, refusal));
+        if let Some(refusal) = refusal {
+            return Outcome::refused(refusal);
+        }
+        let room = self.room_to_take();
+        let mut desk = Desk::new(&self.session, lent, self.variant, watch);
+        let mut taken = 0;
+        while taken < input.len() && desk.reply.free() >= room {
+            desk.take(input[taken]);
+            taken += 1;
+        }
+        self.finish(desk.close(), taken)
+    }
+
+    pub fn key(&mut self, lent: Lent, key: u8, watch: &mut dyn Watch) -> Outcome {
+        let meaning = Key::meaning(key, self.variant);
+        let refusal = refusal::first(self.variant, |refusal| match meaning {
+            None if refusal == Refusal::NoMeaning => true,
+            Some(key) if self.refuses(&lent, key, refusal) => true,
+            _ => self.unfit(&lent, refusal),
+        });
+        let (None, Some(meaning)) = (refusal, meaning) else {
+            return Outcome::refused(refusal.unwrap_or(Refusal::NoMeaning));
+        };
+        let mut desk = Desk::new(&self.session, lent, self.variant, watch);
+        desk.press(key, meaning);
+        self.finish(desk.close(), 1)
+    }
+
+    fn finish(&mut self, (session, written): (Session, usize), taken: usize) -> Outcome {
+        self.session = session;
+        Outcome {
+            refusal: None,
+            taken,
+            written,
+        }
+    }
+
+    /// The refusals that host bytes and keys share.
+    fn unfit(&self, lent: &Lent, refusal: Refusal) -> bool {
+        let size = self.session.size;
+        let cells = size.cells();
+        match refusal {
+            Refusal::Size => !size.in_range(),
+            Refusal::Buffers => lent.chars.len() != cells || lent.attrs.len() != cells,
+            Refusal::Character => !lent.chars.iter().all(|c| (32..=126).contains(c)),
+            Refusal::Session => !self.session.sound(),
+            Refusal::Room => lent.reply.len() < self.room_to_call(),
+            _ => false,
+        }
+    }
+
+    /// The refusals of a key that has a meaning.
+    fn refuses(&self, lent: &Lent, key: Key, refusal: Refusal) -> bool {
+        let session = &self.session;
+        match refusal {
+            Refusal::DetOff => !session.det && key.needs_det(self.variant),
+            Refusal::Guarded => key.changes_cell() && self.on_guarded(lent),
+            Refusal::Class => {
+                let attr = lent.attrs[session.size.cell(session.cursor)];
+                !key.fits(attr, session.suppressed, self.variant)
+            }
+            _ => false,
+        }
+    }
+
+    fn on_guarded(&self, lent: &Lent) -> bool {
+        let cell = self.session.size.cell(self.session.cursor);
+        crate::screen::guarded(lent.attrs[cell], self.session.suppressed, self.variant)
+    }
+
+    fn room_to_call(&self) -> usize {
+        let room = self.session.size.room();
+        match self.variant {
+            Variant::RefuseRoomLess => room - 1,
+            Variant::RefuseRoomMore => room + 1,
+            _ => room,
+        }
+    }
+
+    fn room_to_take(&self) -> usize {
+        let room = self.session.size.room();
+        match self.variant {
+            Variant::TakeRoomLess => room - 1,
+            Variant::TakeRoomMore => room + 1,
+            _ => room,
+        }
+    }
+}

@@ -1,0 +1,176 @@
+//! Deliberately wrong terminals, each with one rule changed. The code that
+//! decides a rule asks for its variant there and nowhere else.
+
+macro_rules! variants {
+    ($($case:ident $name:literal $what:literal;)*) => {
+        /// Which rule is changed; `None` is the right program.
+        #[derive(Clone, Copy, Debug, Default, PartialEq, Eq)]
+        pub enum Variant {
+            #[default]
+            None,
+            $($case,)*
+        }
+
+        /// Every wrong variant with its name and what it does.
+        pub const ALL: &[(Variant, &str, &str)] = &[$((Variant::$case, $name, $what),)*];
+    };
+}
+
+variants! {
+    // The slips that the scope names.
+    InsertToLineEnd "insert-to-line-end" "char insert shifts to the line's end";
+    DeleteToLineEnd "delete-to-line-end" "char delete shifts to the line's end";
+    ClassOnHost "class-on-host" "host text is held to the cell's class";
+    Error255Single "error-255-single" "IAC stays single in an ERROR that names 255";
+    FieldsEndAtLineEnd "fields-end-at-line-end" "a line's end ends the field";
+    ProtectedRunIsField "protected-run-is-field" "21 counts a protected run as an empty field";
+    SuppressionChanges21 "suppression-changes-21" "21 sends every field while suppressed";
+
+    // Cells, fields and guards.
+    FieldByProtection "field-by-protection" "fields compare only bits 4 and 3";
+    OnlyNoneUnprotected "only-none-unprotected" "alphabetic and numeric count as protected";
+    GuardIgnoresSuppression "guard-ignores-suppression" "protected cells stay guarded while suppressed";
+    SpanIgnoresSuppression "span-ignores-suppression" "the edit span ends at the field while suppressed";
+    ShiftOnGuarded "shift-on-guarded" "15 and 16 shift on a guarded cell too";
+    DroppedAdvances "dropped-advances" "a dropped host character moves the cursor";
+
+    // Prefaces.
+    Preface20Cursor "preface-20-cursor" "20 is prefaced by the cursor";
+    Preface21Origin "preface-21-origin" "21 is always prefaced by (0,0)";
+    Preface21EmptyCursor "preface-21-empty-cursor" "21 without fields is prefaced by the cursor";
+    Preface22Cursor "preface-22-cursor" "22 is prefaced by the cursor";
+    Preface23Cursor "preface-23-cursor" "23 is prefaced by the cursor";
+    Preface26Start "preface-26-start" "26 is prefaced by its field's start";
+    PrefaceGuardedStart "preface-guarded-start" "23 on a guarded cell is prefaced by its field's start";
+    GuardedNoPreface "guarded-no-preface" "23 and 26 on a guarded cell send nothing at all";
+    GuardedSent "guarded-sent" "23 and 26 send a guarded field";
+
+    // The cursor afterwards.
+    Cursor20Stays "cursor-20-stays" "20 leaves the cursor";
+    Cursor21Stays "cursor-21-stays" "21 leaves the cursor";
+    Cursor21EmptyStays "cursor-21-empty-stays" "21 without fields leaves the cursor";
+    Cursor22Stays "cursor-22-stays" "22 leaves the cursor";
+    Cursor22LastWraps "cursor-22-last-wraps" "22 on the last line goes to (0,0)";
+    Cursor22LastKeepsX "cursor-22-last-keeps-x" "22 on the last line leaves the cursor";
+    Cursor23Moves "cursor-23-moves" "23 goes to the cell after the field";
+    Cursor30LineStart "cursor-30-line-start" "30 goes to the line's start";
+    Cursor31FieldStart "cursor-31-field-start" "31 goes to the field's start";
+    Cursor35Origin "cursor-35-origin" "35 goes to (0,0)";
+    Cursor35Stays "cursor-35-stays" "35 leaves the cursor";
+    Cursor36Moves "cursor-36-moves" "36 goes past the formatted cells";
+    TypingNextCell "typing-next-cell" "typing goes to the next cell, guarded or not";
+    TypingWraps "typing-wraps" "typing goes on at the screen's start";
+    HostLastWraps "host-last-wraps" "host text goes on at (0,0) after the last cell";
+    RepeatLastWraps "repeat-last-wraps" "REPEAT that ends at the last cell goes to (0,0)";
+
+    // Cursor movement.
+    MoveXNotLimited "move-x-not-limited" "MOVE CURSOR keeps the old x where it should limit it";
+    MoveYNotLimited "move-y-not-limited" "MOVE CURSOR keeps the old y where it should limit it";
+    MoveErrorStays "move-error-stays" "MOVE CURSOR off the screen leaves the cursor";
+    MoveLimitsInSilence "move-limits-in-silence" "MOVE CURSOR limits without an ERROR";
+    MoveTwoErrors "move-two-errors" "MOVE CURSOR draws one ERROR for each of x and y";
+    RightWraps "right-wraps" "11 at the line's end goes to the next line";
+    DownWraps "down-wraps" "9 on the last line goes to the first";
+    HomeIgnoresSuppression "home-ignores-suppression" "12 seeks an unprotected cell while suppressed";
+    HomeOrigin "home-origin" "12 always goes to (0,0)";
+    ReverseTabIgnoresSuppression "reverse-tab-ignores-suppression" "19 seeks a field while suppressed";
+    ReverseTabNotStrict "reverse-tab-not-strict" "19 stays on a field's start";
+
+    // Erasing and shifting.
+    EraseScreenKeepsAttributes "erase-screen-keeps-attributes" "29 leaves the attributes";
+    EraseSparesProtected "erase-spares-protected" "30 to 34 spare protected cells while suppressed";
+    Erase35Suppressed "erase-35-suppressed" "35 erases protected cells while suppressed";
+    DeleteKeepsLast "delete-keeps-last" "16 puts no space at the span's end";
+    Field23Suppressed "field-23-suppressed" "23 and 26 send no protected field while suppressed";
+
+    // ERROR numbers and order.
+    Errors9And10Exchanged "errors-9-10-exchanged" "too few draws 9 and too many 10";
+    Error12After11 "error-12-after-11" "FORMAT DATA counts cells before it looks at its map";
+    ValuesBeforeCount "values-before-count" "values are checked before the count";
+    CountBeforeCode "count-before-code" "an unknown code with more parameters than any takes draws 9";
+    UnknownInSilence "unknown-in-silence" "an unknown code draws no ERROR";
+    NoCommandError2 "no-command-error-2" "no command byte draws ERROR 2";
+    Error41Unknown "error-41-unknown" "41 draws ERROR 2";
+    FormatBit5 "format-bit-5" "FORMAT DATA lets bit 5 of its map pass";
+    FormatSecondMap "format-second-map" "FORMAT DATA lets its second map byte pass";
+    FormatLowFirst "format-low-first" "FORMAT DATA reads its count low byte first";
+    FormatAllRemaining "format-all-remaining" "FORMAT DATA of all cells that remain draws 11";
+    RepeatNone "repeat-none" "REPEAT of no characters lets any character pass";
+    Repeat127 "repeat-127" "REPEAT writes character 127";
+    EraseMapShifted "erase-map-shifted" "the erase map is shifted by one bit";
+
+    // Suppression.
+    DontKeepsSuppression "dont-keeps-suppression" "DONT 20 leaves protection suppressed";
+    SuppressAnswersAlways "suppress-answers-always" "38 is answered though nothing changed";
+    SuppressWillInSilence "suppress-will-in-silence" "38 with 251 is not answered";
+
+    // Reply room.
+    RefuseRoomLess "refuse-room-less" "one byte too little room is not refused";
+    RefuseRoomMore "refuse-room-more" "just enough room is refused";
+    TakeRoomLess "take-room-less" "bytes are taken with one byte too little free";
+    TakeRoomMore "take-room-more" "bytes are taken only with one byte more free";
+
+    // Refusal order.
+    Refuse2Before1 "refuse-2-before-1" "refusal 2 is looked for before 1";
+    Refuse3Before2 "refuse-3-before-2" "refusal 3 is looked for before 2";
+    Refuse4Before3 "refuse-4-before-3" "refusal 4 is looked for before 3";
+    Refuse5Before4 "refuse-5-before-4" "refusal 5 is looked for before 4";
+    Refuse9Before5 "refuse-9-before-5" "refusal 9 is looked for before 5";
+    Refuse5Last "refuse-5-last" "refusal 5 is looked for after all others";
+
+    // Telnet bytes.
+    Option255Doubled "option-255-doubled" "answers double the option 255";
+    Option255IsIac "option-255-is-iac" "255 in an option's place starts a command";
+    SbInsideNotAnew "sb-inside-not-anew" "IAC SB inside a subnegotiation starts none";
+    ThrownSwallowsCommand "thrown-swallows-command" "the command that throws a subnegotiation away is not obeyed";
+    HeldKeptAfterEnd "held-kept-after-end" "held bytes stay when a subnegotiation ends";
+    HeldKeptAfterThrow "held-kept-after-throw" "held bytes stay when a subnegotiation is thrown away";
+    CountPast6 "count-past-6" "the held count does not stop at 6";
+    CountStopsAt5 "count-stops-at-5" "the held count stops at 5";
+    SubIacIacTwice "sub-iac-iac-twice" "IAC IAC in a subnegotiation counts as two bytes";
+    DetOffObeyed "det-off-obeyed" "commands are obeyed while DET is off";
+    OtherOptionObeyed "other-option-obeyed" "other options' subnegotiations are obeyed";
+    NoOptionObeyed "no-option-obeyed" "a subnegotiation without an option byte draws ERROR 10";
+    Will20Accepted "will-20-accepted" "WILL 20 is answered DO 20";
+    WontAnswered "wont-answered" "WONT is answered DONT";
+    Do20Again "do-20-again" "DO 20 is answered while DET is on too";
+    Dont20Again "dont-20-again" "DONT 20 is answered while DET is off too";
+
+    // Data bytes.
+    CrNextLine "cr-next-line" "CR goes a line down too";
+    LfWraps "lf-wraps" "LF on the last line goes to the first";
+    LfLineStart "lf-line-start" "LF sets x to 0 too";
+    BsWraps "bs-wraps" "BS at x = 0 goes to the line before";
+
+    // Keys.
+    Key127NoMeaning "key-127-no-meaning" "key 127 has no meaning";
+    Key128NoMeaning "key-128-no-meaning" "key 128 has no meaning";
+    Key143NoMeaning "key-143-no-meaning" "key 143 has no meaning";
+    Key144Function "key-144-function" "key 144 is a function key";
+    FunctionLess128 "function-less-128" "FN sends the key less 128";
+    DeleteNeedsDet "delete-needs-det" "key 127 is refused while DET is off";
+    SendWithoutDet "send-without-det" "key 13 is taken while DET is off";
+    Key8Wraps "key-8-wraps" "key 8 goes on at the screen's end";
+    Key8OntoGuarded "key-8-onto-guarded" "key 8 goes to the cell before, guarded or not";
+    Key8StopsAtLine "key-8-stops-at-line" "key 8 stays within the line";
+    Key9NoWrap "key-9-no-wrap" "key 9 stays after the last field's start";
+    Key9NotStrict "key-9-not-strict" "key 9 stays on a field's start";
+    Key9Suppressed "key-9-suppressed" "key 9 goes to protected fields too while suppressed";
+    ClassAt "class-at" "@ counts as a letter";
+    ClassBracket "class-bracket" "[ counts as a letter";
+    ClassBackquote "class-backquote" "` counts as a letter";
+    ClassBrace "class-brace" "{ counts as a letter";
+    ClassSlash "class-slash" "/ counts as numeric";
+    ClassColon "class-colon" ": counts as numeric";
+    ClassComma "class-comma" ", counts as numeric";
+    ClassMinus "class-minus" "- does not count as numeric";
+    ClassLetterSpace "class-letter-space" "an alphabetic cell refuses the space";
+    ClassNumberSpace "class-number-space" "a numeric cell refuses the space";
+    ClassWhileSuppressed "class-while-suppressed" "class is tested while suppressed";
+}
+
+/// The variant of that name.
+pub fn named(name: &str) -> Option<Variant> {
+    let found = ALL.iter().find(|(_, known, _)| *known == name)?;
+    Some(found.0)
+}

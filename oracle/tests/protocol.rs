@@ -1,0 +1,179 @@
+//! The replay protocol: answers, state lines and bad lines.
+
+use oracle::replay;
+use oracle::variant::Variant;
+
+fn answers(script: &str) -> Vec<String> {
+    let mut output = Vec::new();
+    let run = replay::script(Variant::None, &mut script.as_bytes(), &mut output);
+    run.expect("neither side can fail");
+    let output = String::from_utf8(output).expect("answers are ASCII");
+    output.lines().map(String::from).collect()
+}
+
+fn last(script: &str) -> String {
+    answers(script).pop().expect("an answer")
+}
+
+#[test]
+fn open_done_and_refused() {
+    assert_eq!(last("open 2 1 2 2"), "0 0 0 - 2 1 0 0 0 0 2020 0000");
+    assert_eq!(last("open 2 1 2 3"), "2 0 0 - 0 0 0 0 0 0 2a2a 111111");
+    assert_eq!(last("open 65535 0 0 1"), "1 0 0 - 0 0 0 0 0 0 - 11");
+    let gone = "open 2 1 2 2\ndet 1\ncursor 1 0\nopen 1 1 1 1";
+    assert_eq!(last(gone), "0 0 0 - 1 1 0 0 0 0 20 00");
+}
+
+#[test]
+fn before_any_open() {
+    assert_eq!(last("host 41 3"), "1 0 0 a5a5a5 0 0 0 0 0 0 - -");
+    assert_eq!(last("key 0 0"), "1 0 0 - 0 0 0 0 0 0 - -");
+    assert_eq!(last("state"), "data - 0 000000000000");
+    assert_eq!(last("cursor 3 4\nkey 65 1"), "1 0 0 a5 0 0 3 4 0 0 - -");
+}
+
+#[test]
+fn host_and_key() {
+    let open = "open 1 1 1 1\n";
+    let host = last(&format!("{open}host 41fffd0342 9"));
+    assert_eq!(host, "0 4 3 fffc03a5a5a5a5a5a5 1 1 0 0 0 0 41 00");
+    let host = last(&format!("{open}host - 9"));
+    assert_eq!(host, "0 0 0 a5a5a5a5a5a5a5a5a5 1 1 0 0 0 0 20 00");
+    let key = last(&format!("{open}det 1\nkey 143 9"));
+    assert_eq!(key, "0 1 7 fffa142810fff0a5a5 1 1 0 0 1 0 20 00");
+    let key = last(&format!("{open}key 65 8"));
+    assert_eq!(key, "5 0 0 a5a5a5a5a5a5a5a5 1 1 0 0 0 0 20 00");
+}
+
+#[test]
+fn set_lines() {
+    let script =
+        "open 1 1 1 1\nchars 7e\nattrs 08\nsuppress 1\ndet 1\ncursor 0 0\nheld 0\nkey 97 9";
+    let mut expected = vec!["0 0 0 - 1 1 0 0 0 0 20 00"];
+    expected.extend(["set"; 6]);
+    expected.push("0 1 0 a5a5a5a5a5a5a5a5a5 1 1 0 0 1 1 61 08");
+    assert_eq!(answers(script), expected);
+    assert_eq!(last("chars -"), "set");
+    assert_eq!(
+        last("open 1 1 1 1\nchars 1f\nkey 97 9").split(' ').next(),
+        Some("3")
+    );
+    assert_eq!(
+        last("open 1 1 1 1\ncursor 1 0\nkey 97 9").split(' ').next(),
+        Some("4")
+    );
+    assert_eq!(
+        last("open 1 1 1 1\nheld 7\nkey 97 9").split(' ').next(),
+        Some("4")
+    );
+}
+
+#[test]
+fn state_lines() {
+    let after = |bytes: &str| last(&format!("open 1 1 1 1\nhost {bytes} 90\nstate"));
+    assert_eq!(after("41"), "data - 0 000000000000");
+    assert_eq!(after("ff"), "iac - 0 000000000000");
+    assert_eq!(after("fffb"), "will - 0 000000000000");
+    assert_eq!(after("fffc"), "wont - 0 000000000000");
+    assert_eq!(after("fffd"), "do - 0 000000000000");
+    assert_eq!(after("fffe"), "dont - 0 000000000000");
+    assert_eq!(after("fffa"), "sb - 0 000000000000");
+    assert_eq!(after("fffaff"), "sb-iac - 0 000000000000");
+    assert_eq!(after("fffa14"), "sub 20 0 000000000000");
+    assert_eq!(after("fffaffff0102"), "sub 255 2 010200000000");
+    assert_eq!(
+        after("fffa140102030405060708ff"),
+        "sub-iac 20 6 010203040506"
+    );
+    assert_eq!(after("fffa140102fff0"), "data - 0 000000000000");
+    assert_eq!(after("fffa140102fffa"), "sb - 0 000000000000");
+    let held = last("open 1 1 1 1\nhost fffa14010203 9\nheld 1\nhost 04 9\nstate");
+    assert_eq!(held, "sub 20 2 010403000000");
+}
+
+/// Only the end or the throwing away of a subnegotiation clears it.
+#[test]
+fn a_count_set_outside_a_subnegotiation_stays() {
+    let start = "open 1 1 1 1\ndet 1\nheld 3\n";
+    assert_eq!(
+        last(&format!("{start}host 41fff1 9\nstate")),
+        "data - 3 000000000000"
+    );
+    assert_eq!(
+        last(&format!("{start}host fffa1411 9\nstate")),
+        "sub 20 4 000000110000"
+    );
+    let unknown = last(&format!("{start}host fffa1411fff0 9"));
+    assert_eq!(unknown, "0 6 8 fffa14290002fff0a5 1 1 0 0 1 0 20 00");
+}
+
+#[test]
+fn the_last_line_needs_no_newline() {
+    assert_eq!(answers("state\nstate").len(), 2);
+    assert_eq!(answers("state\nstate\n").len(), 2);
+    assert_eq!(answers(""), Vec::<String>::new());
+}
+
+/// One a line; those that end in a space are tried apart.
+const BAD_LINES: &str = "\
+State
+\x20state
+state 1
+stat
+open 1 1 1
+open 1 1 1 1 1
+open 65536 1 1 1
+open 1 65536 1 1
+open 1 1 8449 1
+open 1 1 1 8449
+open  1 1 1 1
+open -1 1 1 1
+open +1 1 1 1
+open 1 1 1 x
+chars
+chars 1
+chars 2A
+chars 0g
+chars 20 20
+attrs --
+cursor 1
+cursor 256 0
+cursor 0 256
+held 256
+held
+det 2
+det
+suppress 2
+suppress 1 1
+host 41
+host 41 80001
+host 4 9
+host - -
+key 256 9
+key 65
+key 65 80001
+key -1 9
+key 99999999999999999999 9
+";
+
+#[test]
+fn bad_lines_end_the_script() {
+    for line in BAD_LINES
+        .lines()
+        .chain(["", " ", "state ", "state\r", "chars "])
+    {
+        let expected = ["data - 0 000000000000", "bad line 2"];
+        assert_eq!(
+            answers(&format!("state\n{line}\nstate\n")),
+            expected,
+            "{line:?}"
+        );
+    }
+    let long = |word: &str, bytes: usize| format!("{word} {}", "20".repeat(bytes));
+    assert_eq!(last(&long("chars", 8_448)), "set");
+    assert_eq!(last(&long("chars", 8_449)), "bad line 1");
+    assert_eq!(last(&long("attrs", 8_449)), "bad line 1");
+    assert!(last(&(long("host", 65_536) + " 0")).starts_with("1 0 0 - "));
+    assert_eq!(last(&(long("host", 65_537) + " 0")), "bad line 1");
+    assert!(last("host - 80000").starts_with("1 0 0 a5"));
+}

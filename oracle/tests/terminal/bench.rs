@@ -1,0 +1,133 @@
+//! A terminal with buffers of its own, for tests.
+
+use oracle::refusal::Refusal;
+use oracle::size::{Position, X, Y};
+use oracle::terminal::{Lent, Outcome, Terminal};
+use oracle::watch::Unwatched;
+
+pub struct Bench {
+    pub terminal: Terminal,
+    pub chars: Vec<u8>,
+    pub attrs: Vec<u8>,
+    pub room: usize,
+    pub reply: Vec<u8>,
+}
+
+impl Bench {
+    /// An open screen with room for many replies.
+    pub fn open(m: u16, n: u16) -> Bench {
+        let cells = usize::from(m * n);
+        let mut bench = Bench {
+            terminal: Terminal::default(),
+            chars: vec![b'*'; cells],
+            attrs: vec![17; cells],
+            room: 4 * (7 * cells + 2),
+            reply: Vec::new(),
+        };
+        let outcome = bench
+            .terminal
+            .open(m, n, &mut bench.chars, &mut bench.attrs);
+        assert_eq!(outcome, Outcome::default());
+        bench
+    }
+
+    /// A screen of that text and those attributes, DET on.
+    pub fn with(m: u16, n: u16, text: &[u8], attrs: &[u8]) -> Bench {
+        let mut bench = Bench::open(m, n);
+        bench.chars.copy_from_slice(text);
+        bench.attrs.copy_from_slice(attrs);
+        bench.terminal.session.det = true;
+        bench
+    }
+
+    /// Form F with the cursor at (x, y).
+    pub fn form_f(x: u8, y: u8) -> Bench {
+        const P: u8 = 8;
+        let attrs = [P, P, P, 0, 0, 0, P, P, P, P, P, P, P, 0, 0, 0];
+        Bench::with(8, 2, b"WT 70 #4UNIT mg ", &attrs).at(x, y)
+    }
+
+    pub fn at(mut self, x: u8, y: u8) -> Bench {
+        self.terminal.session.cursor = Position { x: X(x), y: Y(y) };
+        self
+    }
+
+    pub fn suppressed(mut self) -> Bench {
+        self.terminal.session.suppressed = true;
+        self
+    }
+
+    /// Host bytes that must all be taken; the reply.
+    pub fn host(&mut self, input: &[u8]) -> Vec<u8> {
+        let outcome = self.try_host(input);
+        assert_eq!((outcome.refusal, outcome.taken), (None, input.len()));
+        self.reply[..outcome.written].to_vec()
+    }
+
+    pub fn try_host(&mut self, input: &[u8]) -> Outcome {
+        self.reply = vec![0xa5; self.room];
+        let lent = Lent {
+            chars: &mut self.chars,
+            attrs: &mut self.attrs,
+            reply: &mut self.reply,
+        };
+        self.terminal.host(lent, input, &mut Unwatched)
+    }
+
+    /// A key that must be taken; the reply.
+    pub fn key(&mut self, key: u8) -> Vec<u8> {
+        let outcome = self.try_key(key);
+        assert_eq!((outcome.refusal, outcome.taken), (None, 1));
+        self.reply[..outcome.written].to_vec()
+    }
+
+    pub fn try_key(&mut self, key: u8) -> Outcome {
+        self.reply = vec![0xa5; self.room];
+        let lent = Lent {
+            chars: &mut self.chars,
+            attrs: &mut self.attrs,
+            reply: &mut self.reply,
+        };
+        self.terminal.key(lent, key, &mut Unwatched)
+    }
+
+    /// A DET subcommand that must be taken; the reply.
+    pub fn command(&mut self, inside: &[u8]) -> Vec<u8> {
+        self.host(&subcommand(inside))
+    }
+
+    pub fn cursor(&self) -> (u8, u8) {
+        let cursor = self.terminal.session.cursor;
+        (cursor.x.0, cursor.y.0)
+    }
+
+    pub fn line(&self, y: usize) -> &str {
+        let m = usize::from(self.terminal.session.size.m);
+        std::str::from_utf8(&self.chars[y * m..][..m]).expect("screen characters are ASCII")
+    }
+}
+
+/// IAC SB 20, the bytes with 255 doubled, IAC SE.
+pub fn subcommand(inside: &[u8]) -> Vec<u8> {
+    let mut bytes = vec![0xff, 0xfa, 20];
+    for &byte in inside {
+        bytes.push(byte);
+        if byte == 0xff {
+            bytes.push(byte);
+        }
+    }
+    bytes.extend([0xff, 0xf0]);
+    bytes
+}
+
+/// An ERROR as the terminal sends it.
+pub fn error(code: u8, number: u8) -> Vec<u8> {
+    subcommand(&[41, code, number])
+}
+
+pub fn refused(refusal: Refusal) -> Outcome {
+    Outcome {
+        refusal: Some(refusal),
+        ..Outcome::default()
+    }
+}

@@ -1,0 +1,5 @@
+//! The terminal's rules, call by call.
+
+mod bench;
+mod rules;
+mod worked;

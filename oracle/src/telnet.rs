@@ -99,8 +99,8 @@ impl Reader {
             Phase::Iac => self.command(byte),
             Phase::Verb(verb) => self.option(verb, byte, variant),
             Phase::Sb if byte == IAC => self.turn(Phase::SbIac),
-            Phase::Sb => self.turn(Phase::Sub(byte)),
-            Phase::SbIac if byte == IAC => self.turn(Phase::Sub(IAC)),
+            Phase::Sb => self.begin(byte, variant),
+            Phase::SbIac if byte == IAC => self.begin(IAC, variant),
             Phase::SbIac => self.leave(None, byte, variant),
             Phase::Sub(option) if byte == IAC => self.turn(Phase::SubIac(option)),
             Phase::Sub(option) => self.hold(option, byte, variant),
@@ -134,6 +134,14 @@ impl Reader {
         }
         self.phase = Phase::Data;
         Heard::Negotiation(verb, byte)
+    }
+
+    /// The count is of bytes after the option byte: there are none yet.
+    fn begin(&mut self, option: u8, variant: Variant) -> Heard {
+        if variant != Variant::HeldKeptAtOption {
+            self.held = Held::default();
+        }
+        self.turn(Phase::Sub(option))
     }
 
     fn hold(&mut self, option: u8, byte: u8, variant: Variant) -> Heard {

@@ -125,6 +125,7 @@ variants! {
     ThrownSwallowsCommand "thrown-swallows-command" "the command that throws a subnegotiation away is not obeyed";
     HeldKeptAfterEnd "held-kept-after-end" "held bytes stay when a subnegotiation ends";
     HeldKeptAfterThrow "held-kept-after-throw" "held bytes stay when a subnegotiation is thrown away";
+    HeldKeptAtOption "held-kept-at-option" "held bytes from before stay at an option byte";
     CountPast6 "count-past-6" "the held count does not stop at 6";
     CountStopsAt5 "count-stops-at-5" "the held count stops at 5";
     SubIacIacTwice "sub-iac-iac-twice" "IAC IAC in a subnegotiation counts as two bytes";

@@ -91,9 +91,9 @@ fn state_lines() {
     assert_eq!(held, "sub 20 2 010403000000");
 }
 
-/// Only the end or the throwing away of a subnegotiation clears it.
+/// Data and other commands leave it; the next option byte clears it.
 #[test]
-fn a_count_set_outside_a_subnegotiation_stays() {
+fn a_count_set_outside_a_subnegotiation_stays_until_the_option_byte() {
     let start = "open 1 1 1 1\ndet 1\nheld 3\n";
     assert_eq!(
         last(&format!("{start}host 41fff1 9\nstate")),
@@ -101,10 +101,10 @@ fn a_count_set_outside_a_subnegotiation_stays() {
     );
     assert_eq!(
         last(&format!("{start}host fffa1411 9\nstate")),
-        "sub 20 4 000000110000"
+        "sub 20 1 110000000000"
     );
-    let unknown = last(&format!("{start}host fffa1411fff0 9"));
-    assert_eq!(unknown, "0 6 8 fffa14290002fff0a5 1 1 0 0 1 0 20 00");
+    let read = last(&format!("{start}host fffa1411fff0 9"));
+    assert_eq!(read, "0 6 8 fffa14120000fff0a5 1 1 0 0 1 0 20 00");
 }
 
 #[test]

@@ -1,0 +1,282 @@
+-- What every effect keeps: the size of the screen, the cursor on it, printable characters, a reply within the room.
+use mathlib.Core.Path.{_≡_, refl}
+use mathlib.Core.Bool.{Bool, true, false, not, _&&_}
+use mathlib.Core.List.{List, [], _∷_}
+use Prim.Native.Nat.{ℕ, zero, suc, _*_, _≤_, _<_}
+use native.Mathlib.Omega.{arith}
+use lib.Dec.{eqb}
+use lib.ListN.{length, length-replicate}
+use Rattle.telnet.specs.declared.Verb.{Verb}
+use Rattle.telnet.specs.declared.Verb.the-variants.{Will, Wont, Do, Dont}
+use Rattle.telnet.specs.declared.Event.{Event}
+use Rattle.telnet.specs.declared.Event.the-variants.{Nothing, Data, Negotiation, Begin, Sub, End, EndBare, Lost}
+use Rattle.telnet.specs.Writer.{doubled, subnegotiation, negotiation}
+use Rattle.screen.specs.declared.cell.Place.{Place}
+use Rattle.screen.specs.Words.{if_then_else_, between}
+use Rattle.screen.specs.Cells.{placeOf}
+use Rattle.screen.proofs.WordLaws.{either}
+use Rattle.screen.proofs.FieldLaws.{nextOpen-lt}
+use Rattle.screen.proofs.EditLaws.{formatted-length}
+use Rattle.rules.specs.declared.Held.{Held}
+use Rattle.rules.specs.declared.Facility.{Facility}
+use Rattle.rules.specs.declared.Facility.the-variants.{Editing, Erasing, Transmitting, Formatting}
+use Rattle.rules.specs.declared.Direction.the-variants.{Down, Left}
+use Rattle.rules.specs.declared.Area.{Area}
+use Rattle.rules.specs.declared.Area.the-variants.{WholeScreen, Unprotected, WholeLine, WholeField, RestOfScreen, RestOfLine, RestOfField}
+use Rattle.rules.specs.declared.Command.{Command}
+use Rattle.rules.specs.declared.Command.the-variants.{Facilities, MoveCursor, Step, Home, CharInsert, CharDelete, ReadCursor, ReverseTab, Transmit, Erase, FormatData, Repeat, SuppressProtection, Error}
+use Rattle.rules.specs.declared.Code.{Code}
+use Rattle.rules.specs.declared.Code.the-variants.{Known, Unknown}
+use Rattle.rules.specs.declared.Fault.{Fault}
+use Rattle.rules.specs.declared.Fault.the-variants.{NoFault, UnknownCode, OffScreen, TooManyParameters, TooFewParameters, BadValue, BadMap}
+use Rattle.rules.specs.declared.Key.{Key}
+use Rattle.rules.specs.declared.Key.the-variants.{Typed, Back, Tab, Send, Delete, Function, Meaningless}
+use Rattle.rules.specs.Session.{View, printable, noneHeld}
+use Rattle.rules.specs.Effect.{Effect, Change, Part, bytes, text, insert, delete, changedAll, message, changing, saying, quiet}
+use Rattle.rules.specs.Telnet.{cursorGuarded, negotiated, hostCharacter, hostCharacters, hostData}
+use Rattle.rules.specs.Command.{parameter, valueFault, faultOf}
+use Rattle.rules.specs.Subcommand.{preface, unlessGuarded, transmitted, erasure, ownMap, shifting, suppressing, obeyed, judged, looked, subcommand}
+use Rattle.rules.specs.Key.{keyOf, pressed}
+use Rattle.rules.specs.Operation.{happening, hostByte}
+use Rattle.rules.proofs.Characters.{Text, Fine, text-changed, changed-append}
+use Rattle.rules.proofs.Errors.{no-fault}
+use Rattle.rules.proofs.Replies.{Fits, Follows, fits-nothing, fits-bytes, fits-prefaced, place-message, error-message, function-message, one-text, no-text, fields-text}
+use Rattle.rules.proofs.Views.{On, SoundView, Within, at-place, switched, reading, attributed, held-few, origin-on, stepped-on, next-on, limited-on, place-on, at-cell, cursor-lt, some, home-lt, back-tab-lt, first-field-lt, previous-lt, next-field-lt, line-lt, field-lt}
+
+-- what an effect keeps on a screen m cells wide and n lines high
+pub record Keeps (m n : ℕ) (e : Effect) : Type 0 where
+  pub view : SoundView m n (e .view)
+  pub changes : (attrs chars : List ℕ) → Text (n * m) chars → Text (n * m) (changedAll attrs (e .changes) chars)
+  pub reply : Fits m n (e .reply)
+  pub executed : length (e .executed) ≤ 1
+
+-- ---- the kinds of effect
+
+module _ {m n : ℕ} {v : View} (k : SoundView m n v) where
+  cells-some : 0 < n * m
+  cells-some = omega (arith, some k, k .attrs)
+
+  says : (ps : List Part) → Fits m n ps → Keeps m n (saying v ps)
+  unfolding changedAll
+  says ps f = record { view = k; changes = λ attrs chars t. t; reply = f; executed = omega arith }
+
+  quietly : Keeps m n (quiet v)
+  quietly = says [] (fits-nothing m n)
+
+  tells : (bs : List ℕ) → length bs ≤ 9 → Keeps m n (saying v (bytes bs ∷ []))
+  tells bs l = says _ (fits-bytes m n cells-some bs l)
+
+  changes : (c : Change) → Fine c → Keeps m n (changing v (c ∷ []))
+  unfolding changedAll
+  changes c f =
+      record { view = k; changes = λ attrs chars t. text-changed attrs chars c f t; reply = fits-nothing m n; executed = omega arith }
+
+  place-long : (code : ℕ) → eqb code 255 ≡ false → (p : Place) → On m n p
+      → length (subnegotiation 20 (code ∷ p .x .0 ∷ p .y .0 ∷ [])) ≡ 8
+  place-long code e p h = place-message code (p .x .0) (p .y .0) e (omega arith) (omega arith)
+
+  errs : (code number : ℕ) → eqb number 255 ≡ false → Keeps m n (saying v (message (41 ∷ code ∷ number ∷ []) ∷ []))
+  errs code number e = tells _ (error-message code number e)
+
+answers : {m n : ℕ} {w : View} (b : Bool) {ps qs : List Part} → Keeps m n (saying w ps) → Keeps m n (saying w qs)
+    → Keeps m n (saying w (if b then ps else qs))
+answers true p q = p
+answers false p q = q
+
+-- ---- host data and negotiation
+
+module _ {m n : ℕ} {v : View} (k : SoundView m n v) where
+  keeps-character : (c : ℕ) → printable c ≡ true → Keeps m n (hostCharacter v c)
+  unfolding hostCharacter
+  keeps-character c p = either (Keeps m n) (cursorGuarded v) (λ g. quietly k) (λ g. changes (at-place k _ (next-on k)) _ p)
+
+  keeps-data : (b : ℕ) → Keeps m n (hostData v b)
+  unfolding hostData
+  keeps-data b =
+      either (Keeps m n) (printable b) (keeps-character b)
+      (λ p. either (Keeps m n) (eqb b 13) (λ q. quietly (at-place k _ (omega arith)))
+      (λ q. either (Keeps m n) (eqb b 10) (λ q. quietly (at-place k _ (stepped-on k Down)))
+      (λ q. either (Keeps m n) (eqb b 8) (λ q. quietly (at-place k _ (stepped-on k Left))) (λ q. quietly k))))
+
+  keeps-negotiated : (verb : Verb) (option : ℕ) → Keeps m n (negotiated v verb option)
+  unfolding negotiated negotiation
+  keeps-negotiated Do option =
+      either (Keeps m n) (not (eqb option 20)) (λ q. tells k _ (omega arith))
+      (λ q. either (Keeps m n) (v .session .det) (λ q. quietly k) (λ q. tells (switched k _ _) _ (omega arith)))
+  keeps-negotiated Dont option =
+      either (Keeps m n) (eqb option 20 && v .session .det) (λ q. tells (switched k _ _) _ (omega arith)) (λ q. quietly k)
+  keeps-negotiated Will option = tells k _ (omega arith)
+  keeps-negotiated Wont option = quietly k
+
+keeps-characters : (j : ℕ) {m n : ℕ} {v : View} → SoundView m n v → (c : ℕ) → printable c ≡ true
+    → Keeps m n (hostCharacters j v c)
+unfolding hostCharacters
+keeps-characters zero k c p = quietly k
+keeps-characters (suc j) {m} {n} k c p =
+    let one = keeps-character k c p in
+    let rest = keeps-characters j (one .view) c p in
+    record {
+      view = rest .view;
+      changes = λ attrs chars t. rw changed-append (rest .changes attrs _ (one .changes attrs chars t));
+      reply = fits-nothing m n;
+      executed = omega arith;
+    }
+
+-- ---- subcommands
+
+chosen : (b : Bool) → (if b then NoFault else BadValue) ≡ NoFault → b ≡ true
+chosen true e = refl
+chosen false e = cc
+
+module _ {m n : ℕ} {v : View} (k : SoundView m n v) where
+  -- a transmission, which leaves another view
+  sends : {w : View} → SoundView m n w → (cell : ℕ) → Within v cell → (ps : List Part) → Follows (n * m) ps
+      → Keeps m n (saying w (preface v cell ∷ ps))
+  sends f cell h ps g =
+      says f _ (fits-prefaced m n _ ps (place-long k 28 refl (placeOf (v .session .width) cell) (place-on k cell h)) g)
+
+  a-text : (from end : ℕ) → Follows (n * m) (text from end ∷ [])
+  a-text = one-text (cells-some k)
+
+  open-text : (from end : ℕ) → Follows (n * m) (unlessGuarded v (text from end))
+  open-text from end = either (Follows (n * m)) (cursorGuarded v) (λ g. no-text (cells-some k)) (λ g. a-text from end)
+
+  keeps-transmitted : (a : Area) → Keeps m n (transmitted v a)
+  unfolding transmitted
+  keeps-transmitted WholeScreen = sends (at-place k _ (origin-on k)) 0 (some k) _ (a-text _ _)
+  keeps-transmitted Unprotected =
+      sends (at-cell k _ (first-field-lt k)) _ (first-field-lt k) _ (rw (← k .attrs) (fields-text (v .attrs) (some k)))
+  keeps-transmitted WholeLine = sends (at-place k _ (omega (arith, stepped-on k Down))) _ (line-lt k) _ (a-text _ _)
+  keeps-transmitted RestOfScreen = sends k _ (cursor-lt k) _ (a-text _ _)
+  keeps-transmitted RestOfLine = sends k _ (cursor-lt k) _ (a-text _ _)
+  keeps-transmitted WholeField =
+      sends k _ (either (Within v) (cursorGuarded v) (λ g. cursor-lt k) (λ g. field-lt k)) _ (open-text _ _)
+  keeps-transmitted RestOfField = sends k _ (cursor-lt k) _ (open-text _ _)
+
+  keeps-erasure : (a : Area) → Keeps m n (erasure v a)
+  unfolding erasure
+  keeps-erasure WholeScreen = changes (attributed (at-place k _ (origin-on k)) _ (length-replicate _ 0)) _ tt
+  keeps-erasure Unprotected = changes (at-cell k _ (first-field-lt k)) _ tt
+  keeps-erasure WholeLine = changes k _ tt
+  keeps-erasure WholeField = changes k _ tt
+  keeps-erasure RestOfScreen = changes k _ tt
+  keeps-erasure RestOfLine = changes k _ tt
+  keeps-erasure RestOfField = changes k _ tt
+
+  keeps-suppressing : (parameter : ℕ) → Keeps m n (suppressing v parameter)
+  unfolding suppressing subnegotiation doubled
+  keeps-suppressing parameter =
+      either (Keeps m n) (eqb parameter 253)
+      (λ q. answers (v .session .suppressed) (quietly (switched k _ _)) (tells (switched k _ _) _ (omega arith)))
+      (λ q. either (Keeps m n) (eqb parameter 254)
+      (λ q. answers (v .session .suppressed) (tells (switched k _ _) _ (omega arith)) (quietly (switched k _ _)))
+      (λ q. either (Keeps m n) (eqb parameter 251) (λ q. tells k _ (omega arith)) (λ q. quietly k)))
+
+  keeps-map : (f : Facility) → Keeps m n (saying v (message (ownMap f) ∷ []))
+  unfolding ownMap subnegotiation doubled
+  keeps-map Editing = tells k _ (omega arith)
+  keeps-map Erasing = tells k _ (omega arith)
+  keeps-map Transmitting = tells k _ (omega arith)
+  keeps-map Formatting = tells k _ (omega arith)
+
+  keeps-shift : (shift : ℕ → ℕ → ℕ → Change) → ((from end : ℕ) → Fine (shift from end 1)) → Keeps m n (shifting v shift)
+  keeps-shift shift f = either (λ cs. Keeps m n (changing v cs)) (cursorGuarded v) (λ g. quietly k) (λ g. changes k _ (f _ _))
+
+  keeps-obeyed : (c : Command) (h : Held) → valueFault v c h ≡ NoFault → Keeps m n (obeyed v c h)
+  unfolding obeyed valueFault
+  keeps-obeyed (Facilities f) h e = keeps-map f
+  keeps-obeyed MoveCursor h e = quietly (at-place k _ (limited-on k h))
+  keeps-obeyed (Step d) h e = quietly (at-place k _ (stepped-on k d))
+  keeps-obeyed Home h e = quietly (at-cell k _ (home-lt k))
+  keeps-obeyed CharInsert h e = keeps-shift insert (λ from end. tt)
+  keeps-obeyed CharDelete h e = keeps-shift delete (λ from end. tt)
+  keeps-obeyed ReadCursor h e = tells k _ (omega (arith, place-long k 18 refl (v .session .cursor) (k .cursor)))
+  keeps-obeyed ReverseTab h e = quietly (at-cell k _ (back-tab-lt k))
+  keeps-obeyed (Transmit a) h e = keeps-transmitted a
+  keeps-obeyed (Erase a) h e = keeps-erasure a
+  keeps-obeyed FormatData h e = quietly (attributed k _ (formatted-length _ _ _ _))
+  keeps-obeyed Repeat h e = keeps-characters (parameter h 0) k _ (chosen (printable (parameter h 1)) e)
+  keeps-obeyed SuppressProtection h e = keeps-suppressing _
+  keeps-obeyed Error h e = quietly k
+
+  keeps-judged : (c : Command) (h : Held) (f : Fault) → faultOf v c h ≡ f → Keeps m n (judged v c h f)
+  unfolding judged
+  keeps-judged c h NoFault e =
+      let o = keeps-obeyed c h (no-fault v c h e) in
+      record { view = o .view; changes = o .changes; reply = o .reply; executed = omega arith }
+  keeps-judged c h OffScreen e = errs (at-place k _ (limited-on k h)) _ 3 refl
+  keeps-judged c h UnknownCode e = errs k _ 2 refl
+  keeps-judged c h TooManyParameters e = errs k _ 9 refl
+  keeps-judged c h TooFewParameters e = errs k _ 10 refl
+  keeps-judged c h BadValue e = errs k _ 11 refl
+  keeps-judged c h BadMap e = errs k _ 12 refl
+
+  keeps-looked : (c : Code) (h : Held) → Keeps m n (looked v c h)
+  unfolding looked
+  keeps-looked Unknown h = errs k _ 2 refl
+  keeps-looked (Known c) h = keeps-judged c h (faultOf v c h) refl
+
+  keeps-subcommand : (h : Held) → Keeps m n (subcommand v h)
+  unfolding subcommand
+  keeps-subcommand h = either (Keeps m n) (eqb (h .count) 0) (λ e. errs k 0 10 refl) (λ e. keeps-looked _ h)
+
+-- ---- a host byte
+
+keeps-happening : {m n : ℕ} {v : View} → SoundView m n v → (e : Event) → Keeps m n (happening v e)
+unfolding happening
+keeps-happening k Nothing = quietly k
+keeps-happening k (Data b) = keeps-data k b
+keeps-happening k (Negotiation verb option) = keeps-negotiated k verb option
+keeps-happening k (Begin option) = quietly (reading k _ _ (omega arith))
+keeps-happening k (Sub option b) = quietly (reading k _ _ (held-few k b))
+keeps-happening {m} {n} {v} k (End option) =
+    let w = reading k _ noneHeld (omega arith) in
+    either (Keeps m n) (eqb option 20 && v .session .det) (λ q. keeps-subcommand w _) (λ q. quietly w)
+keeps-happening k EndBare = quietly (reading k _ _ (omega arith))
+keeps-happening k Lost = quietly (reading k _ _ (omega arith))
+
+-- whatever the byte
+pub keeps-byte : {m n : ℕ} {v : View} → SoundView m n v → (b : ℕ) → Keeps m n (hostByte v b)
+unfolding hostByte
+keeps-byte {v = v} k b = keeps-happening (reading k _ (v .session .held) (k .held)) _
+
+-- at most one command is executed
+pub executed-one : {m n : ℕ} {v : View} → SoundView m n v → (b : ℕ) → length ((hostByte v b) .executed) ≤ 1
+executed-one k b = keeps-byte k b .executed
+
+-- ---- a key
+
+-- only printable characters are typed
+abbrev pub Typable : Key → Type 0
+Typable (Typed c) = printable c ≡ true
+Typable Back = Unit {0}
+Typable Tab = Unit {0}
+Typable Send = Unit {0}
+Typable Delete = Unit {0}
+Typable (Function n) = Unit {0}
+Typable Meaningless = Unit {0}
+
+-- and what a key means is typable
+pub typable : (code : ℕ) → Typable (keyOf code)
+unfolding keyOf
+typable code =
+    either Typable (printable code) (λ p. p)
+    (λ p. either Typable (eqb code 8) (λ p. tt)
+    (λ p. either Typable (eqb code 9) (λ p. tt)
+    (λ p. either Typable (eqb code 13) (λ p. tt)
+    (λ p. either Typable (eqb code 127) (λ p. tt)
+    (λ p. either Typable (between 128 143 code) (λ p. tt) (λ p. tt))))))
+
+keeps-pressed : {m n : ℕ} {v : View} → SoundView m n v → (key : Key) → Typable key → Keeps m n (pressed v key)
+unfolding pressed
+keeps-pressed k (Typed c) p = changes (at-cell k _ (nextOpen-lt _ _ _ (cursor-lt k))) _ p
+keeps-pressed k Back p = quietly (at-cell k _ (previous-lt k))
+keeps-pressed k Tab p = quietly (at-cell k _ (next-field-lt k))
+keeps-pressed k Send p = keeps-transmitted k Unprotected
+keeps-pressed k Delete p = keeps-shift k delete (λ from end. tt)
+keeps-pressed k (Function f) p = tells k _ (function-message f)
+keeps-pressed k Meaningless p = quietly k
+
+-- whatever the key
+pub keeps-key : {m n : ℕ} {v : View} → SoundView m n v → (code : ℕ) → Keeps m n (pressed v (keyOf code))
+keeps-key k code = keeps-pressed k (keyOf code) (typable code)

@@ -1,0 +1,17 @@
+pub mod Worked
+pub mod Shut
+pub mod All
+pub mod Refusals
+pub mod Errors
+pub mod Calls
+pub mod Characters
+pub mod Replies
+pub mod Views
+pub mod Effects
+pub mod Sound
+pub mod Room
+pub mod Run
+pub mod Safe
+pub mod SafeEffects
+pub mod Apart
+pub mod Needed

@@ -1,0 +1,97 @@
+-- The reply room: one reply fits into 7C + 2 bytes, that many are needed, and what a call returns keeps to what it was lent.
+use mathlib.Core.Path.{_≡_, refl, ap}
+use mathlib.Core.Bool.{false}
+use mathlib.Core.List.{List, [], _∷_}
+use Prim.Native.Nat.{ℕ, _-_, _≤_}
+use native.Mathlib.Nat.{le-trans}
+use native.Mathlib.Omega.{arith}
+use borrow.Author.Tests.{leb-true, le-leb}
+use lib.Dec.{leb}
+use lib.ListN.{length, take, length-append, length-drop}
+use Rattle.screen.proofs.WordLaws.{either}
+use Rattle.rules.specs.declared.Refusal.the-variants.{Taken}
+use Rattle.rules.specs.Session.{replyRoom, fresh}
+use Rattle.rules.specs.Refusal.{isTaken}
+use Rattle.rules.specs.Operation.{State, Outcome, running, unless, takenOf, hostRefusal, hostBytes}
+use Rattle.rules.specs.Call.{Call, host, key, called}
+use Rattle.rules.specs.Computing.{computing}
+use Rattle.rules.specs.Cases.{starting}
+use Rattle.rules.proofs.Calls.{byteRan, keyRan, lent, takenBy, ranBy, called-cases}
+use Rattle.rules.proofs.Effects.{keeps-byte, keeps-key}
+use Rattle.rules.proofs.Sound.{Sound, sound-byte, Accepted, sound-of}
+
+-- ---- one reply
+
+module _ {m n : ℕ} {s : State} (k : Sound m n s) where
+  room-is : replyRoom (s .view .session) ≡ replyRoom (fresh m n)
+  room-is = rw (k .view .sizes .width, k .view .sizes .height)
+
+  -- of a host byte
+  pub room-byte : (b : ℕ) → length ((byteRan s b) .replies) ≤ replyRoom (s .view .session)
+  room-byte b = omega (arith, room-is, keeps-byte (k .view) b .reply (s .chars) (k .chars .long))
+
+  -- of a key
+  pub room-key : (code : ℕ) → length ((keyRan s code) .replies) ≤ replyRoom (s .view .session)
+  room-key code = omega (arith, room-is, keeps-key (k .view) code .reply (s .chars) (k .chars .long))
+
+-- All of it is used: two cells, each an unprotected field, and subcommand 21.
+pub room-reached :
+    let s = starting 2 1 false (0 ∷ 16 ∷ []) (32 ∷ 32 ∷ []) 0 0 in
+    length ((running s (255 ∷ 250 ∷ 20 ∷ 21 ∷ 255 ∷ 240 ∷ [])) .replies) ≡ replyRoom (s .view .session)
+unfolding computing
+room-reached = refl
+
+-- ---- what a call returns
+
+-- no more is taken than there is
+pub taken-most : (s : State) (free : ℕ) (bs : List ℕ) → takenOf s free bs ≤ length bs
+unfolding takenOf
+taken-most s free [] = omega arith
+taken-most s free (b ∷ bs) =
+    let rest = taken-most ((byteRan s b) .state) (free - length ((byteRan s b) .replies)) bs in
+    either (λ n. n ≤ length (b ∷ bs)) (leb (replyRoom (s .view .session)) free) (λ e. omega arith) (λ e. omega arith)
+
+-- the replies of the bytes that are taken fit
+pub replies-fit : {m n : ℕ} {s : State} → Sound m n s → (free : ℕ) (bs : List ℕ)
+    → length ((running s (take (takenOf s free bs) bs)) .replies) ≤ free
+unfolding takenOf running
+replies-fit k free [] = omega arith
+replies-fit {s = s} k free (b ∷ bs) =
+    let one = byteRan s b in
+    either (λ n. length ((running s (take n (b ∷ bs))) .replies) ≤ free) (leb (replyRoom (s .view .session)) free)
+    (λ e. rw length-append
+    (omega (arith, leb-true, room-byte k b, replies-fit (sound-byte k b) (free - length (one .replies)) bs)))
+    (λ e. omega arith)
+
+-- a call that is not refused takes at least one byte, if there is one
+pub takes-some : (s : State) (reply : List ℕ) (b : ℕ) (bs : List ℕ) → hostRefusal s reply ≡ Taken
+    → 1 ≤ (hostBytes s reply (b ∷ bs)) .answer .taken
+unfolding hostBytes unless takenOf
+takes-some s reply b bs e = rw (e, le-leb _ _ (sound-of s (host [] reply) (ap isTaken e) .room)) (omega arith)
+
+-- how much a call offers
+abbrev pub offered : Call → ℕ
+offered (host input reply) = length input
+offered (key code reply) = 1
+
+taken-fits : (s : State) (c : Call) → takenBy s c ≤ offered c
+taken-fits s (host input reply) = taken-most s (length reply) input
+taken-fits s (key code reply) = omega arith
+
+written-fits : (s : State) (c : Call) → Accepted s (lent c) → length ((ranBy s c) .replies) ≤ length (lent c)
+written-fits s (host input reply) a = replies-fit (a .sound) (length reply) input
+written-fits s (key code reply) a = le-trans (room-key (a .sound) code) (a .room)
+
+pub record Bounded (c : Call) (o : Outcome) : Type 0 where
+  pub taken : o .answer .taken ≤ offered c
+  pub written : o .answer .written ≤ length (lent c)
+  pub long : length (o .reply) ≡ length (lent c)
+
+-- no more is taken than was offered, no more written than was lent, and the reply buffer keeps its length
+pub called-bounded : (s : State) (c : Call) → Bounded c (called s c)
+called-bounded s c =
+    called-cases (Bounded c) s c
+    (λ t.
+    let fits = written-fits s c (sound-of s c t) in
+    record { taken = taken-fits s c; written = fits; long = simp (length-append, length-drop) (omega arith) })
+    (λ f. record { taken = omega arith; written = omega arith; long = refl })

@@ -1,0 +1,23 @@
+-- One name for every definition: a proof under `unfolding computing` computes with them.
+use Prim.Native.Nat.{ℕ}
+use Rattle.telnet.specs.Reader.{reader}
+use Rattle.telnet.specs.Writer.{doubled, subnegotiation, negotiation}
+use Rattle.screen.specs.Words.{firstOf, lastOf, tabulate}
+use Rattle.screen.specs.Attributes.{protectedAt}
+use Rattle.screen.specs.Fields.{startsAt, opensAt, fieldStart, fieldEnd, spanEnd}
+use Rattle.screen.specs.Scans.{nextOpen}
+use Rattle.screen.specs.Edits.{deleted, inserted, onPart, erased, formatted}
+use Rattle.screen.specs.Classes.{takes}
+use Rattle.rules.specs.Session.{allPrintable, sessionOk}
+use Rattle.rules.specs.Refusal.{verdict, sizeTests, stateTests}
+use Rattle.rules.specs.Effect.{changed, changedAll, spelled, spelledAll}
+use Rattle.rules.specs.Telnet.{holding, negotiated, stepped, nextPlace, hostCharacter, hostCharacters, hostData}
+use Rattle.rules.specs.Command.{commandOf, parametersOf, valueFault, faultOf, sendsPast, erasesPast, reachesPast}
+use Rattle.rules.specs.Subcommand.{homeCell, backTabCell, firstFieldCell, fieldTexts, transmitted, erasure, ownMap, suppressing, obeyed, judged, looked, subcommand}
+use Rattle.rules.specs.Key.{keyOf, hasMeaning, detAllows, guardAllows, classAllows, keyTests, previousOpen, nextField, pressed}
+use Rattle.rules.specs.Operation.{happening, hostByte, running, unless, takenOf, hostBytes, oneKey, opened}
+use Rattle.rules.specs.Call.{called, answersOf, stateAfter, executedBy, executedOf}
+
+unfoldable pub computing : ℕ
+unfolding reader doubled subnegotiation negotiation firstOf lastOf tabulate protectedAt startsAt opensAt fieldStart fieldEnd spanEnd nextOpen deleted inserted onPart erased formatted takes allPrintable sessionOk verdict sizeTests stateTests changed changedAll spelled spelledAll holding negotiated stepped nextPlace hostCharacter hostCharacters hostData commandOf parametersOf valueFault faultOf sendsPast erasesPast reachesPast homeCell backTabCell firstFieldCell fieldTexts transmitted erasure ownMap suppressing obeyed judged looked subcommand keyOf hasMeaning detAllows guardAllows classAllows keyTests previousOpen nextField pressed happening hostByte running unless takenOf hostBytes oneKey opened called answersOf stateAfter executedBy executedOf
+computing = 0

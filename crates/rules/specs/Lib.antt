@@ -1,0 +1,12 @@
+pub mod Session
+pub mod Refusal
+pub mod Effect
+pub mod Telnet
+pub mod Command
+pub mod Subcommand
+pub mod Key
+pub mod Operation
+pub mod Call
+pub mod Apart
+pub mod Computing
+pub mod Cases

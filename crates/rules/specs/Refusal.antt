@@ -1,0 +1,55 @@
+-- Document 01, "Refusal numbers".
+use mathlib.Core.Bool.{Bool, _&&_}
+use mathlib.Core.List.{List, [], _∷_}
+use Prim.Native.Nat.{ℕ}
+use lib.Dec.{leb, eqb}
+use lib.ListN.{length}
+use Rattle.screen.specs.Words.{if_then_else_}
+use Rattle.rules.specs.declared.Session.{Session}
+use Rattle.rules.specs.declared.Refusal.{Refusal}
+use Rattle.rules.specs.declared.Refusal.the-variants.{Taken, Size, BufferLength, BadCharacter, BadSession, ReplyRoom, Guarded, WrongClass, DetOff, NoMeaning}
+use Rattle.rules.specs.Session.{sizesOk, cells, replyRoom, allPrintable, sessionOk}
+
+-- the table's numbers; 0 where the call is taken
+abbrev pub numberOf : Refusal → ℕ
+numberOf Taken = 0
+numberOf Size = 1
+numberOf BufferLength = 2
+numberOf BadCharacter = 3
+numberOf BadSession = 4
+numberOf ReplyRoom = 5
+numberOf Guarded = 6
+numberOf WrongClass = 7
+numberOf DetOff = 8
+numberOf NoMeaning = 9
+
+abbrev pub isTaken : Refusal → Bool
+isTaken r = eqb (numberOf r) 0
+
+-- a test that a call must pass, and its refusal where it does not
+pub record Test : Type 0 where
+  pub passes : Bool
+  pub otherwise : Refusal
+
+abbrev pub test : Bool → Refusal → Test
+test passes otherwise = record { passes = passes; otherwise = otherwise }
+
+-- the first test that fails decides
+unfoldable pub verdict : List Test → Refusal
+verdict [] = Taken
+verdict (t ∷ ts) = if t .passes then verdict ts else t .otherwise
+
+-- 1 and 2, of every operation; open has no others
+unfoldable pub sizeTests : Session → List ℕ → List ℕ → List Test
+sizeTests s attrs chars =
+    test (sizesOk (s .width) (s .height)) Size
+    ∷ test (eqb (length chars) (cells s) && eqb (length attrs) (cells s)) BufferLength
+    ∷ []
+
+-- 3, 4 and 5, of host bytes and of a key, after those
+unfoldable pub stateTests : Session → List ℕ → List ℕ → List Test
+stateTests s chars reply =
+    test (allPrintable chars) BadCharacter
+    ∷ test (sessionOk s) BadSession
+    ∷ test (leb (replyRoom s) (length reply)) ReplyRoom
+    ∷ []

@@ -1,0 +1,85 @@
+-- Document 01, "Telnet bytes" and the last paragraph of "Cells, fields and guards": held bytes, negotiation, host data.
+use mathlib.Core.Bool.{Bool, true, false, not, _&&_}
+use mathlib.Core.List.{List, [], _∷_, _++_}
+use Prim.Native.Nat.{ℕ, zero, suc, _+_, _-_}
+use lib.Dec.{ltb, eqb}
+use lib.ListN.{set}
+use Rattle.telnet.specs.declared.Verb.{Verb}
+use Rattle.telnet.specs.declared.Verb.the-variants.{Will, Wont, Do, Dont}
+use Rattle.telnet.specs.Writer.{negotiation}
+use Rattle.screen.specs.declared.cell.Place.{Place}
+use Rattle.screen.specs.Words.{if_then_else_}
+use Rattle.screen.specs.Cells.{place}
+use Rattle.screen.specs.Attributes.{guardedAt}
+use Rattle.rules.specs.declared.Held.{Held}
+use Rattle.rules.specs.declared.Session.{Session}
+use Rattle.rules.specs.declared.Direction.{Direction}
+use Rattle.rules.specs.declared.Direction.the-variants.{Up, Down, Left, Right}
+use Rattle.rules.specs.Session.{View, printable, cursorCell, withCursor, withModes}
+use Rattle.rules.specs.Effect.{Effect, Part, put, bytes, changing, saying, quiet}
+
+-- one byte more of a subnegotiation: six are held, and the count stops there
+unfoldable pub holding : Held → ℕ → Held
+holding h b =
+    if ltb (h .count) 6
+    then record { bytes = set (h .bytes) (h .count) b; count = h .count + 1 }
+    else h
+
+-- is the cell of the cursor guarded
+abbrev pub cursorGuarded : View → Bool
+cursorGuarded v = guardedAt (v .session .suppressed) (v .attrs) (cursorCell v)
+
+-- ---- item 3: negotiation
+
+abbrev pub answer : Verb → ℕ → List Part
+answer verb option = bytes (negotiation verb option) ∷ []
+
+unfoldable pub negotiated : View → Verb → ℕ → Effect
+negotiated v Do option =
+    if not (eqb option 20) then saying v (answer Wont option)
+    else if v .session .det then quiet v
+    else saying (withModes v true (v .session .suppressed)) (answer Will 20)
+negotiated v Dont option =
+    if eqb option 20 && v .session .det then saying (withModes v false false) (answer Wont 20) else quiet v
+negotiated v Will option = saying v (answer Dont option)
+negotiated v Wont option = quiet v
+
+-- ---- steps of the cursor, none at the edge
+
+unfoldable pub stepped : Session → Direction → Place
+stepped s Up = place (s .cursor .x .0) (s .cursor .y .0 - 1)
+stepped s Down = place (s .cursor .x .0) (if ltb (s .cursor .y .0 + 1) (s .height) then s .cursor .y .0 + 1 else s .cursor .y .0)
+stepped s Left = place (s .cursor .x .0 - 1) (s .cursor .y .0)
+stepped s Right = place (if ltb (s .cursor .x .0 + 1) (s .width) then s .cursor .x .0 + 1 else s .cursor .x .0) (s .cursor .y .0)
+
+-- the next cell; at the last cell the cursor stays
+unfoldable pub nextPlace : Session → Place
+nextPlace s =
+    if ltb (s .cursor .x .0 + 1) (s .width) then place (s .cursor .x .0 + 1) (s .cursor .y .0)
+    else if ltb (s .cursor .y .0 + 1) (s .height) then place 0 (s .cursor .y .0 + 1)
+    else s .cursor
+
+-- ---- item 5: host data
+
+-- a host character: dropped on a guarded cell, else written; its class is not tested
+unfoldable pub hostCharacter : View → ℕ → Effect
+hostCharacter v c =
+    if cursorGuarded v then quiet v
+    else changing (withCursor v (nextPlace (v .session))) (put (cursorCell v) c ∷ [])
+
+-- the same character so many times
+unfoldable pub hostCharacters : ℕ → View → ℕ → Effect
+hostCharacters zero v c = quiet v
+hostCharacters (suc n) v c =
+    let one = hostCharacter v c in
+    let rest = hostCharacters n (one .view) c in
+    changing (rest .view) (one .changes ++ rest .changes)
+
+-- 32 to 126 is written; CR (13), LF (10) and BS (8) move the cursor; other data does nothing
+unfoldable pub hostData : View → ℕ → Effect
+hostData v b =
+    if printable b then hostCharacter v b
+    else if eqb b 13 then quiet (withCursor v (place 0 (v .session .cursor .y .0)))
+    else if eqb b 10 then quiet (withCursor v (stepped (v .session) Down))
+    else if eqb b 8 then quiet (withCursor v (stepped (v .session) Left))
+    else quiet v

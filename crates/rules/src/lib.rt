@@ -1,0 +1,115 @@
+// The types of the terminal: the session, what its operations answer, commands and keys by meaning.
+// The rules of document 01 are definitions over them, in specs/; this crate has no code.
+use screen::cell::Place;
+use telnet::Phase;
+
+// The first bytes of a subnegotiation after its option byte, and how many they are: the count stops at 6.
+pub struct Held {
+    pub bytes: [u8; 6],
+    pub count: u8,
+}
+
+// All that is kept between two calls, besides the lent buffers.
+pub struct Session {
+    pub width: u8,
+    pub height: u8,
+    pub cursor: Place,
+    pub det: bool,
+    pub suppressed: bool,
+    pub phase: Phase,
+    pub held: Held,
+}
+
+// Why a call is refused; `Taken` where it is not.
+pub enum Refusal {
+    Taken,
+    Size,
+    BufferLength,
+    BadCharacter,
+    BadSession,
+    ReplyRoom,
+    Guarded,
+    WrongClass,
+    DetOff,
+    NoMeaning,
+}
+
+// What each operation answers.
+pub struct Answer {
+    pub session: Session,
+    pub refusal: Refusal,
+    pub taken: usize,
+    pub written: usize,
+}
+
+// The classes of facilities that 1 to 4 ask about.
+pub enum Facility {
+    Editing,
+    Erasing,
+    Transmitting,
+    Formatting,
+}
+
+pub enum Direction {
+    Up,
+    Down,
+    Left,
+    Right,
+}
+
+// What a transmission or an erasure covers.
+pub enum Area {
+    WholeScreen,
+    Unprotected,
+    WholeLine,
+    WholeField,
+    RestOfScreen,
+    RestOfLine,
+    RestOfField,
+}
+
+// A subcommand by its meaning.
+pub enum Command {
+    Facilities(Facility),
+    MoveCursor,
+    Step(Direction),
+    Home,
+    CharInsert,
+    CharDelete,
+    ReadCursor,
+    ReverseTab,
+    Transmit(Area),
+    Erase(Area),
+    FormatData,
+    Repeat,
+    SuppressProtection,
+    Error,
+}
+
+// What a subcommand's code means.
+pub enum Code {
+    Known(Command),
+    Unknown,
+}
+
+// The ERROR that a subcommand draws, if any.
+pub enum Fault {
+    NoFault,
+    UnknownCode,
+    OffScreen,
+    TooManyParameters,
+    TooFewParameters,
+    BadValue,
+    BadMap,
+}
+
+// A key by its meaning.
+pub enum Key {
+    Typed(u8),
+    Back,
+    Tab,
+    Send,
+    Delete,
+    Function(u8),
+    Meaningless,
+}

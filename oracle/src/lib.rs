@@ -25,6 +25,7 @@ pub mod key;
 pub mod replay;
 pub mod script;
 
+pub mod compare;
 pub mod cover;
 pub mod generate;
 pub mod rng;

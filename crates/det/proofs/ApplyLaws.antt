@@ -1,0 +1,103 @@
+-- Laws of changes: REPEAT is done one character at a time, and every other change at once.
+use mathlib.Core.Path.{_≡_, refl, sym, ap}
+use mathlib.Core.Logic.{⊎-elim}
+use mathlib.Core.List.{List, [], _∷_, _++_}
+use Prim.Native.Nat.{ℕ, zero, suc, _-_, _≤_, _<_}
+use native.Mathlib.Nat.{not-suc-le-zero}
+use native.Mathlib.Omega.{arith}
+use types.Run.{OneOf}
+use denote.Enum.Declared.{tagOf}
+use Rattle.telnet.specs.declared.Phase.{Phase}
+use Rattle.screen.proofs.WordLaws.{either}
+use Rattle.rules.specs.declared.Held.{Held}
+use Rattle.rules.specs.declared.Session.{Session}
+use Rattle.rules.specs.Session.{View}
+use Rattle.rules.specs.Effect.{Effect, changedAll, changing}
+use Rattle.rules.specs.Telnet.{cursorGuarded, hostCharacter, hostCharacters}
+use Rattle.rules.proofs.Characters.{changed-append}
+use Rattle.det.proofs.decision.Change.{the-type}
+use Rattle.det.specs.declared.frame.Frame.{Frame}
+use Rattle.det.specs.declared.decision.Change.{Change}
+use Rattle.det.specs.declared.decision.Change.the-variants.{Nothing, Put, Erase, Insert, Delete, Repeat}
+use Rattle.det.specs.declared.text.Writer.the-variants.{Host}
+use Rattle.det.specs.declared.text.Writing.{Writing}
+use Rattle.det.specs.Frame.{sessionOf, viewOf}
+use Rattle.det.specs.Decision.{changeOf, editsOf, Once}
+use Rattle.det.specs.Writing.{writtenBy, Writes}
+use Rattle.det.specs.Apply.{Changes}
+
+-- what the other arm of a match on Repeat knows
+pub not-repeat : (change : Change) → OneOf (0 ∷ 1 ∷ 2 ∷ 3 ∷ 4 ∷ []) (tagOf the-type change) → Once change
+not-repeat Nothing h v = refl
+not-repeat (Put cell c) h v = refl
+not-repeat (Erase suppressed from end) h v = refl
+not-repeat (Insert from end) h v = refl
+not-repeat (Delete from end) h v = refl
+not-repeat (Repeat n c) h v =
+    absurd (⊎-elim (λ p. omega arith) (⊎-elim (λ p. omega arith) (⊎-elim (λ p. omega arith) (⊎-elim (λ p. omega arith) (λ p. omega arith)))) h)
+
+-- a change that is done at once leaves the frame as it is
+pub changes-once : (change : Change) {f : Frame} {attrs chars chars′ : List ℕ} → Once change → chars′ ≡ changedAll attrs (editsOf change) chars
+    → (phase : Phase) (held : Held) → Changes (changeOf (viewOf f phase held attrs) change) attrs chars (sessionOf f phase held) chars′
+changes-once change {f} {attrs} once e phase held = rw (once (viewOf f phase held attrs)) (record { session = refl; characters = e })
+
+-- ---- REPEAT
+
+-- a host character keeps the attribute bytes
+host-attrs : (v : View) (c : ℕ) → (hostCharacter v c) .view .attrs ≡ v .attrs
+unfolding hostCharacter
+host-attrs v c = either (λ (e : Effect). e .view .attrs ≡ v .attrs) (cursorGuarded v) (λ t. refl) (λ t. refl)
+
+-- so many host characters are one, and then one less
+one-less : (k : ℕ) (v : View) (c : ℕ) → 0 < k → let rest = hostCharacters (k - 1) ((hostCharacter v c) .view) c in
+    hostCharacters k v c ≡ changing (rest .view) ((hostCharacter v c) .changes ++ rest .changes)
+unfolding hostCharacters
+one-less zero v c h = absurd (not-suc-le-zero h)
+one-less (suc k) v c h = let e : suc k - 1 ≡ k = omega arith in rw e
+
+module _ {f : Frame} {attrs : List ℕ} {c : ℕ} {w : Writing} (one : Writes f attrs Host c w) (phase : Phase) (held : Held) where
+  abbrev v : View
+  v = viewOf f phase held attrs
+
+  abbrev v₁ : View
+  v₁ = viewOf (w .decision .frame) phase held attrs
+
+  -- the character's view and change, as they were decided
+  one-view : v₁ ≡ (hostCharacter v c) .view
+  unfolding writtenBy
+  one-view =
+      let m = rw (one .once v₁) at (one .decision .meaning phase held) in
+      λ i. record { session = (m i) .view .session; attrs = sym (host-attrs v c) i }
+
+  one-changes : editsOf (w .decision .change) ≡ (hostCharacter v c) .changes
+  unfolding writtenBy
+  one-changes = ap (λ (e : Effect). e .changes) (rw (one .once v₁) at (one .decision .meaning phase held))
+
+  -- REPEAT is one character, and then one less
+  repeat-less : (k : ℕ) → 0 < k → let rest = hostCharacters (k - 1) v₁ c in
+      hostCharacters k v c ≡ changing (rest .view) (editsOf (w .decision .change) ++ rest .changes)
+  repeat-less k h = rw (one-view, one-changes) (one-less k v c h)
+
+-- n characters from a frame and these characters on: what k more do from here is what they all do
+pub record Repeating (attrs : List ℕ) (c n : ℕ) (f₀ : Frame) (chars₀ : List ℕ) (k : ℕ) (f : Frame) (chars : List ℕ) : Type 0 where
+  pub all : (phase : Phase) (held : Held) {s : Session} {chars′ : List ℕ} → Changes (hostCharacters k (viewOf f phase held attrs) c) attrs chars s chars′
+      → Changes (hostCharacters n (viewOf f₀ phase held attrs) c) attrs chars₀ s chars′
+
+pub repeating-start : {attrs : List ℕ} {c n : ℕ} {f : Frame} {chars : List ℕ} → Repeating attrs c n f chars n f chars
+repeating-start = record { all = λ phase held d. d }
+
+module _ {attrs : List ℕ} {c n : ℕ} {f₀ : Frame} {chars₀ : List ℕ} {k : ℕ} {f : Frame} {chars : List ℕ} (r : Repeating attrs c n f₀ chars₀ k f chars) where
+  -- one more is done
+  pub repeating-more : {w : Writing} {chars₁ : List ℕ} → 0 < k → Writes f attrs Host c w
+      → chars₁ ≡ changedAll attrs (editsOf (w .decision .change)) chars → Repeating attrs c n f₀ chars₀ (k - 1) (w .decision .frame) chars₁
+  repeating-more h one e = record {
+    all = λ phase held d.
+        let less = repeat-less one phase held k h in
+        r .all phase held (record { session = rw less (d .session); characters = rw (less, changed-append, ← e) (d .characters) });
+  }
+
+  -- none is left
+  pub repeating-end : k ≤ 0 → (phase : Phase) (held : Held)
+      → Changes (hostCharacters n (viewOf f₀ phase held attrs) c) attrs chars₀ (sessionOf f phase held) chars
+  unfolding hostCharacters changedAll
+  repeating-end h phase held = let e : k ≡ 0 = omega arith in r .all phase held (rw e (record { session = refl; characters = refl }))

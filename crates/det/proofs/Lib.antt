@@ -1,0 +1,11 @@
+pub mod DecideLaws
+pub mod WriteLaws
+pub mod ObeyLaws
+pub mod ReplyLaws
+pub mod ApplyLaws
+pub mod RefuseLaws
+pub mod SettleLaws
+pub mod TakeLaws
+pub mod HostLaws
+pub mod KeyLaws
+pub mod ApartCode

@@ -1,0 +1,93 @@
+-- Laws of writing a character: by its fate, whatever the reader's part.
+use mathlib.Core.Path.{_≡_, refl, _∙_}
+use mathlib.Core.Bool.{Bool, true, false}
+use mathlib.Core.Logic.{⊎-elim}
+use mathlib.Core.List.{List, [], _∷_}
+use Prim.Native.Nat.{ℕ}
+use native.Mathlib.Omega.{arith}
+use borrow.Author.Tests.{lt-ltb, eq-eqb}
+use types.Run.{OneOf}
+use denote.Enum.Declared.{tagOf}
+use Rattle.telnet.specs.declared.Phase.{Phase}
+use Rattle.screen.specs.Words.{if_then_else_}
+use Rattle.screen.specs.Scans.{nextOpenPlace}
+use Rattle.screen.proofs.WordLaws.{true-or-false}
+use Rattle.rules.specs.declared.Held.{Held}
+use Rattle.rules.specs.declared.Refusal.the-variants.{Taken}
+use Rattle.rules.specs.declared.Key.{Key}
+use Rattle.rules.specs.declared.Key.the-variants.{Typed}
+use Rattle.rules.specs.Session.{View, cursorCell, withCursor}
+use Rattle.rules.specs.Effect.{Effect, put, changing, quiet}
+use Rattle.rules.specs.Telnet.{cursorGuarded, nextPlace, hostCharacter}
+use Rattle.rules.specs.Refusal.{verdict}
+use Rattle.rules.specs.Key.{keyTests, hasMeaning, detAllows, guardAllows, classAllows, pressed}
+use Rattle.det.specs.declared.frame.Frame.{Frame}
+use Rattle.det.specs.declared.decision.Decision.{Decision}
+use Rattle.det.specs.declared.text.Writer.{Writer}
+use Rattle.det.specs.declared.text.Writer.the-variants.{Host, Operator}
+use Rattle.det.specs.declared.text.Fate.{Fate}
+use Rattle.det.specs.declared.text.Fate.the-variants.{Written, Dropped, RefusedByGuard, RefusedByClass}
+use Rattle.det.proofs.text.Fate.{the-type}
+use Rattle.det.specs.Frame.{viewOf, bareView, Fits}
+use Rattle.det.specs.Decision.{Decides}
+use Rattle.det.proofs.DecideLaws.{recast}
+use Rattle.det.specs.Writing.{fateOf, placeAfter, ifWritten, refusalOf, writtenBy}
+
+-- both rules of writing go by the character's fate
+pub by-fate : (w : Writer) (v : View) (c : ℕ)
+    → writtenBy w v c ≡ ifWritten (fateOf w v c) (changing (withCursor v (placeAfter w v)) (put (cursorCell v) c ∷ [])) (quiet v)
+unfolding writtenBy fateOf placeAfter ifWritten hostCharacter pressed
+by-fate Host v c = true-or-false (cursorGuarded v) (λ g. rw g) (λ g. rw g)
+by-fate Operator v c = refl
+
+-- and so does the refusal of a typed character
+pub refused-by-fate : (v : View) (c : ℕ) → refusalOf (fateOf Operator v c) ≡ verdict (keyTests v (Typed c))
+unfolding fateOf verdict keyTests hasMeaning detAllows guardAllows
+refused-by-fate v c =
+    true-or-false (cursorGuarded v) (λ g. rw g) (λ g. true-or-false (classAllows v (Typed c)) (λ a. rw (g, a)) (λ a. rw (g, a)))
+
+-- a typed character that is not refused is written
+only-written : (guarded allowed : Bool)
+    → let fate = if guarded then RefusedByGuard else if allowed then Written else RefusedByClass in refusalOf fate ≡ Taken → fate ≡ Written
+only-written true allowed e = cc
+only-written false true e = refl
+only-written false false e = cc
+
+pub typed-is-written : (v : View) (c : ℕ) → verdict (keyTests v (Typed c)) ≡ Taken → fateOf Operator v c ≡ Written
+unfolding fateOf
+typed-is-written v c e = only-written (cursorGuarded v) (classAllows v (Typed c)) (refused-by-fate v c ∙ e)
+
+-- the fate and the next place do not depend on the reader's part
+module _ (f : Frame) (attrs : List ℕ) (phase : Phase) (held : Held) where
+  pub fate-bare : (w : Writer) (c : ℕ) → fateOf w (viewOf f phase held attrs) c ≡ fateOf w (bareView f attrs) c
+  unfolding fateOf classAllows
+  fate-bare Host c = refl
+  fate-bare Operator c = refl
+
+  pub place-bare : (w : Writer) → placeAfter w (viewOf f phase held attrs) ≡ placeAfter w (bareView f attrs)
+  unfolding placeAfter nextPlace
+  place-bare Host = refl
+  place-bare Operator = refl
+
+-- what the other arm of a match on Written knows
+pub not-written : (f : Fate) → OneOf (1 ∷ 2 ∷ 3 ∷ []) (tagOf the-type f)
+    → (done none : Effect) → ifWritten f done none ≡ none
+unfolding ifWritten
+not-written Written h done none = absurd (⊎-elim (λ p. omega arith) (⊎-elim (λ p. omega arith) (λ p. omega arith)) h)
+not-written Dropped h done none = refl
+not-written RefusedByGuard h done none = refl
+not-written RefusedByClass h done none = refl
+
+-- where the code's scan for the next open place goes, with the cursor on the screen
+pub next-open-is : {f : Frame} {attrs : List ℕ} → Fits f attrs
+    → nextOpenPlace (f .suppressed) attrs (f .width) (f .height) (f .cursor) ≡ placeAfter Operator (bareView f attrs)
+unfolding nextOpenPlace placeAfter
+next-open-is h = rw (lt-ltb _ _ (h .on .x), lt-ltb _ _ (h .on .y), eq-eqb _ _ (h .long))
+
+-- what is decided of a typed character that is not refused is what the rule for its key says
+pub typed : {f : Frame} {attrs : List ℕ} {d : Decision} {k : Key} {c : ℕ} → k ≡ Typed c
+    → verdict (keyTests (bareView f attrs) k) ≡ Taken → Decides f attrs d (λ v. writtenBy Operator v c)
+    → Decides f attrs d (λ v. pressed v k)
+unfolding writtenBy ifWritten
+typed {f} {attrs} {c = c} p e w =
+    rw p (recast w (λ phase held. rw (fate-bare f attrs phase held Operator c, typed-is-written (bareView f attrs) c (rw p at e))))

@@ -1,0 +1,23 @@
+-- `apply` meets its contract: the reply, the characters and the attribute bytes are each settled by one call.
+use borrow.Author.Needs.{needs}
+use Rattle.det.proofs.apply.apply.Statement.{statement}
+use Rattle.det.proofs.apply.apply.Tie as tie
+
+pub apply-spec : {M : Type 1} → statement M
+apply-spec =
+    tie.close
+    (tie.spec
+    (λ c κs. search needs)
+    (λ c κs. search needs)
+    (λ c κs. search needs)
+    (λ c. search needs)
+    (λ c. search needs)
+    (λ c. search needs)
+    (λ c phase held. let f = c .before .before in
+    let d = f .before .before .before .before in
+    let done = d .change-chars .ensures phase held in
+    record {
+      changes = record { session = done .session; characters = done .characters };
+      attributes = f .format-attrs .ensures;
+      replies = d .before .before .before .before .before .write-reply .ensures;
+    }))

@@ -1,0 +1,34 @@
+-- `change_cells` meets its contract: one case for each change. A store past the end is none.
+use lib.Seq.{set-out}
+use mathlib.Core.Path.{sym}
+use borrow.Author.Needs.{needs}
+use Rattle.rules.specs.Effect.{changed, changedAll}
+use Rattle.det.proofs.apply.change_cells.Statement.{statement}
+use Rattle.det.proofs.apply.change_cells.Tie as tie
+
+pub change-cells-spec : {M : Type 1} → statement M
+unfolding changed changedAll
+change-cells-spec =
+    tie.close
+    (tie.spec
+    (λ c. search needs)
+    (λ c. search needs)
+    (λ c. search needs)
+    (λ c. search needs)
+    (λ c κs. search needs)
+    (λ c. search needs)
+    (λ c κs. search needs)
+    (λ c. search needs)
+    (λ c κs. search needs)
+    (λ c. search needs)
+    (λ c. rw (c .enum-told .given .1))
+    (λ c. search needs)
+    (λ c. rw (c .before .before .change .given .1))
+    (λ c. rw (c .before .before .change .given .1) (sym (set-out _ _ _ (c .if1 .left))))
+    (λ c. search needs)
+    (λ c. let p = c .before .before in rw (p .before .before .before .change2 .given .1) (p .erase .ensures))
+    (λ c. search needs)
+    (λ c. let p = c .before .before in rw (p .before .before .before .change3 .given .1) (p .insert .ensures))
+    (λ c. search needs)
+    (λ c. let p = c .before .before in rw (p .before .before .before .change4 .given .1) (p .delete .ensures))
+    (λ c. rw (c .enum-told2 .given .1)))

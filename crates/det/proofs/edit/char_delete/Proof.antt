@@ -1,0 +1,22 @@
+-- `char_delete` meets its contract: by whether the cursor is on a guarded cell.
+use mathlib.Core.Path.{refl}
+use borrow.Author.Needs.{needs}
+use Rattle.rules.specs.Effect.{delete}
+use Rattle.det.specs.declared.decision.Change.the-variants.{Delete}
+use Rattle.det.proofs.ObeyLaws.{shift-not, shift-span}
+use Rattle.det.proofs.edit.char_delete.Statement.{statement}
+use Rattle.det.proofs.edit.char_delete.Tie as tie
+
+pub char-delete-spec : {M : Type 1} → statement M
+char-delete-spec =
+    tie.close
+    (tie.spec
+    (λ c κs. search needs)
+    (λ c κs. search needs)
+    (λ c. rw (c .quiet .ensures) (shift-not (c .before .before .cursor-guarded .ensures) delete (c .before .if1 .taken)))
+    (λ c κs. search needs)
+    (λ c κs. search needs)
+    (λ c κs. search needs)
+    (λ c.
+    rw (c .changing .ensures, c .before .cursor-span-end .ensures, c .before .before .cursor-cell .ensures)
+    (shift-span (c .before .before .before .before .cursor-guarded .ensures) delete Delete (λ v from end. refl) (c .before .before .before .if1 .left))))

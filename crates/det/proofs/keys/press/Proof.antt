@@ -1,0 +1,35 @@
+-- `press` meets its contract: one case for each key.
+use mathlib.Core.Path.{refl}
+use borrow.Author.Needs.{needs}
+use Rattle.rules.specs.Key.{pressed}
+use Rattle.det.proofs.DecideLaws.{decides}
+use Rattle.det.proofs.WriteLaws.{typed}
+use Rattle.det.proofs.keys.press.Statement.{statement}
+use Rattle.det.proofs.keys.press.Tie as tie
+
+pub press-spec : {M : Type 1} → statement M
+unfolding pressed
+press-spec =
+    tie.close
+    (tie.spec
+    (λ c. search needs)
+    (λ c κs. search needs)
+    (λ c. search needs)
+    (λ c κs. search needs)
+    (λ c. search needs)
+    (λ c κs. search needs)
+    (λ c. search needs)
+    (λ c κs. search needs)
+    (λ c. search needs)
+    (λ c κs. search needs)
+    (λ c. search needs)
+    (λ c κs. search needs)
+    (λ c. search needs)
+    (λ c κs. search needs)
+    (λ c. let b = c .before .before .before in typed (b .key .given .1) (b .before .before .before .pre .1) (c .before .write .ensures .decision))
+    (λ c. rw (c .before .enum-told .given .1) (c .go-back .ensures))
+    (λ c. rw (c .before .enum-told2 .given .1) (c .tab .ensures))
+    (λ c. rw (c .before .enum-told3 .given .1) (c .transmit .ensures))
+    (λ c. rw (c .before .enum-told4 .given .1) (c .char-delete .ensures))
+    (λ c. rw (c .before .before .key2 .given .1) (decides (c .saying .ensures) tt (λ phase held. refl)))
+    (λ c. rw (c .before .enum-told5 .given .1) (decides (c .quiet .ensures) tt (λ phase held. refl))))

@@ -1,0 +1,25 @@
+-- `refuse_state` meets its contract: the tests in their order.
+use borrow.Author.Needs.{needs}
+use borrow.Author.Tests.{le-leb, lt-leb}
+use Rattle.rules.specs.Refusal.{verdict, stateTests}
+use Rattle.det.proofs.RefuseLaws.{failing, passing}
+use Rattle.det.proofs.refuse.refuse_state.Statement.{statement}
+use Rattle.det.proofs.refuse.refuse_state.Tie as tie
+
+pub refuse-state-spec : {M : Type 1} → statement M
+unfolding verdict stateTests
+refuse-state-spec =
+    tie.close
+    (tie.spec
+    (λ c κs. search needs)
+    (λ c. rw (failing (c .before .all-printable .ensures) (c .if1 .taken)))
+    (λ c κs. search needs)
+    (λ c. let b = c .before .before in
+    rw (passing (b .before .all-printable .ensures) (b .if1 .left), failing (c .before .session-ok .ensures) (c .if2 .taken)))
+    (λ c κs. search needs)
+    (λ c. let s = c .before .before in
+    let b = s .before .before in
+    rw (passing (b .before .all-printable .ensures) (b .if1 .left), passing (s .before .session-ok .ensures) (s .if2 .left), ← c .before .reply-room .ensures, lt-leb _ _ (c .if3 .taken)))
+    (λ c. let s = c .before .before in
+    let b = s .before .before in
+    rw (passing (b .before .all-printable .ensures) (b .if1 .left), passing (s .before .session-ok .ensures) (s .if2 .left), ← c .before .reply-room .ensures, le-leb _ _ (c .if3 .left))))

@@ -1,0 +1,104 @@
+// A decision, applied: the reply is written from the characters as they are, then the characters change, then the attribute bytes.
+ghost use mathlib.Core.Path.{_≡_};
+ghost use Rattle.telnet.specs.declared.Phase.{Phase};
+ghost use Rattle.rules.specs.declared.Held.{Held};
+ghost use Rattle.rules.specs.Effect.{changedAll};
+ghost use Rattle.det.specs.Frame.{sessionOf, viewOf};
+ghost use Rattle.det.specs.Decision.{changeOf, editsOf, attrsOf, meant};
+ghost use Rattle.det.specs.Reply.{Sayable};
+ghost use Rattle.det.specs.Apply.{Changes, Applies};
+use crate::decision::Change;
+use crate::decision::Decision;
+use crate::decision::Format;
+use crate::frame::Frame;
+use crate::reply::write_reply;
+use crate::text::Writer;
+use crate::text::write;
+use screen::edit::delete;
+use screen::edit::erase;
+use screen::edit::format;
+use screen::edit::insert;
+
+pub struct Applied {
+    pub frame: Frame,
+    pub written: usize,
+}
+
+// A change other than REPEAT.
+fn change_cells(change: Change, chars: &mut [u8], attrs: &[u8])
+    ensures { λ _. ⌜ now (chars .exit) ≡ changedAll (now (attrs .entry)) (editsOf change) (now (chars .entry)) ⌝ }
+{
+    match change {
+        Change::Nothing => {}
+        Change::Put { cell, byte } => if cell < chars.len() {
+            chars[cell] = byte;
+        },
+        Change::Erase {
+            suppressed,
+            from,
+            end,
+        } => erase(chars, attrs, from, end, suppressed),
+        Change::Insert { from, end } => insert(chars, from, end, 1),
+        Change::Delete { from, end } => delete(chars, from, end, 1),
+        Change::Repeat { count: _, byte: _ } => {}
+    }
+}
+
+// 37: a host character so many times.
+fn repeat(frame: Frame, count: u8, byte: u8, chars: &mut [u8], attrs: &[u8]) -> Frame
+    ensures { λ r. ⌜ ((phase : Phase) (held : Held) → Changes (changeOf (viewOf frame phase held (now (attrs .entry))) (Change.Repeat count byte)) (now (attrs .entry)) (now (chars .entry)) (sessionOf r phase held) (now (chars .exit))) ⌝ }
+{
+    let mut now = frame;
+    let mut left = count;
+    while 0 < left {
+        let writing = write(now, attrs, Writer::Host, byte);
+        let decision = writing.decision;
+        let change = decision.change;
+        change_cells(change, chars, attrs);
+        now = decision.frame;
+        left -= 1;
+    }
+    now
+}
+
+// The frame afterwards: REPEAT moves the cursor as it writes.
+pub(crate) fn change_chars(frame: Frame, change: Change, chars: &mut [u8], attrs: &[u8]) -> Frame
+    ensures { λ r. ⌜ ((phase : Phase) (held : Held) → Changes (changeOf (viewOf frame phase held (now (attrs .entry))) change) (now (attrs .entry)) (now (chars .entry)) (sessionOf r phase held) (now (chars .exit))) ⌝ }
+{
+    let Change::Repeat { count, byte } = change else {
+        change_cells(change, chars, attrs);
+        return frame;
+    };
+    repeat(frame, count, byte, chars, attrs)
+}
+
+fn format_attrs(change: Format, attrs: &mut [u8])
+    ensures { λ _. ⌜ now (attrs .exit) ≡ attrsOf change (now (attrs .entry)) ⌝ }
+{
+    match change {
+        Format::Keep => {}
+        Format::Fill { from, end, attr } => format(attrs, from, end, attr),
+    }
+}
+
+pub(crate) fn apply(
+    decision: Decision,
+    chars: &mut [u8],
+    attrs: &mut [u8],
+    reply: &mut [u8],
+    at: usize,
+) -> Applied
+    requires { ⌜ Sayable (decision .say) (now chars) (now attrs) (now reply) at ⌝ }
+    ensures { λ r. ⌜ ((phase : Phase) (held : Held) → Applies (meant phase held (now (attrs .entry)) decision) (now (chars .entry)) (now (attrs .entry)) (now (reply .entry)) at (sessionOf (r .frame) phase held) (now (chars .exit)) (now (attrs .exit)) (now (reply .exit)) (r .written)) ⌝ }
+{
+    let say = decision.say;
+    let next = write_reply(say, chars, attrs, reply, at);
+    let change = decision.change;
+    let frame = change_chars(decision.frame, change, chars, attrs);
+    let format = decision.format;
+    format_attrs(format, attrs);
+    Applied {
+        frame: frame,
+        written: next,
+    }
+}

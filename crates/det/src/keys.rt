@@ -1,0 +1,153 @@
+// One key: what it means, which refusal it draws, what it does.
+ghost use mathlib.Core.Path.{_≡_};
+ghost use Prim.Native.Nat.{_-_};
+ghost use Rattle.screen.specs.Words.{if_then_else_, between};
+ghost use Rattle.rules.specs.Key.{keyOf, keyTests, pressed};
+ghost use Rattle.rules.specs.Refusal.{verdict};
+ghost use Rattle.det.specs.Frame.{Fits, bareView};
+ghost use Rattle.det.specs.Decision.{Decides};
+ghost use Rattle.det.specs.Writing.{refusalOf};
+use crate::decision::Decision;
+use crate::decision::Say;
+use crate::decision::quiet;
+use crate::decision::saying;
+use crate::edit::char_delete;
+use crate::frame::Frame;
+use crate::frame::cursor_cell;
+use crate::frame::cursor_guarded;
+use crate::frame::moved_to;
+use crate::text::Fate;
+use crate::text::Writer;
+use crate::text::is_printable;
+use crate::text::write;
+use crate::transmit::transmit;
+use rules::Area;
+use rules::Key;
+use rules::Refusal;
+use screen::scan::Target;
+use screen::scan::first;
+use screen::scan::last;
+
+// 128 to 143 are the function keys, numbered from 1.
+fn function_key(key: u8) -> Key
+    ensures { λ r. ⌜ r ≡ (if between 128 143 key then Key.Function (key - 127) else Key.Meaningless) ⌝ }
+{
+    match key {
+        128..=143 => Key::Function(key - 127),
+        _ => Key::Meaningless,
+    }
+}
+
+pub(crate) fn key_of(key: u8) -> Key
+    ensures { λ r. ⌜ r ≡ keyOf key ⌝ }
+{
+    let text = is_printable(key);
+    if text {
+        return Key::Typed(key);
+    }
+    match key {
+        8 => Key::Back,
+        9 => Key::Tab,
+        13 => Key::Send,
+        127 => Key::Delete,
+        _ => function_key(key),
+    }
+}
+
+// The refusal of a character that the operator types.
+fn refuse_typed(fate: Fate) -> Refusal
+    ensures { λ r. ⌜ r ≡ refusalOf fate ⌝ }
+{
+    match fate {
+        Fate::Written => Refusal::Taken,
+        Fate::Dropped => Refusal::Taken,
+        Fate::RefusedByGuard => Refusal::Guarded,
+        Fate::RefusedByClass => Refusal::WrongClass,
+    }
+}
+
+// Refusals 9, 8, 6 and 7.
+pub(crate) fn refuse_pressed(frame: Frame, attrs: &[u8], key: Key) -> Refusal
+    requires { ⌜ Fits frame (now attrs) ⌝ }
+    ensures { λ r. ⌜ r ≡ verdict (keyTests (bareView frame (now (attrs .entry))) key) ⌝ }
+{
+    match key {
+        Key::Typed(byte) => {
+            let writing = write(frame, attrs, Writer::Operator, byte);
+            let fate = writing.fate;
+            refuse_typed(fate)
+        }
+        Key::Back => Refusal::Taken,
+        Key::Tab => Refusal::Taken,
+        Key::Send => if frame.det {
+            Refusal::Taken
+        } else {
+            Refusal::DetOff
+        },
+        Key::Delete => {
+            let guarded = cursor_guarded(frame, attrs);
+            if guarded {
+                Refusal::Guarded
+            } else {
+                Refusal::Taken
+            }
+        }
+        Key::Function(_) => if frame.det {
+            Refusal::Taken
+        } else {
+            Refusal::DetOff
+        },
+        Key::Meaningless => Refusal::NoMeaning,
+    }
+}
+
+// 8: the previous cell that is not guarded; none, the cursor stays.
+fn go_back(frame: Frame, attrs: &[u8]) -> Decision
+    requires { ⌜ Fits frame (now attrs) ⌝ }
+    ensures { λ r. ⌜ Decides frame (now (attrs .entry)) r (λ v. pressed v Key.Back) ⌝ }
+{
+    let cell = cursor_cell(frame);
+    quiet(moved_to(
+        frame,
+        last(attrs, Target::Open(frame.suppressed), cell, cell),
+    ))
+}
+
+// 9: the next unprotected field's start after the cursor, else the first, else the cursor stays.
+fn tab(frame: Frame, attrs: &[u8]) -> Decision
+    requires { ⌜ Fits frame (now attrs) ⌝ }
+    ensures { λ r. ⌜ Decides frame (now (attrs .entry)) r (λ v. pressed v Key.Tab) ⌝ }
+{
+    let cell = cursor_cell(frame);
+    let wrapped = first(attrs, Target::UnprotectedStart, 0, cell);
+    quiet(moved_to(
+        frame,
+        first(attrs, Target::UnprotectedStart, cell + 1, wrapped),
+    ))
+}
+
+// What a key does that is not refused.
+pub(crate) fn press(frame: Frame, attrs: &[u8], key: Key) -> Decision
+    requires { ⌜ Fits frame (now attrs) ⌝ }
+    requires { ⌜ verdict (keyTests (bareView frame (now attrs)) key) ≡ Refusal.Taken ⌝ }
+    ensures { λ r. ⌜ Decides frame (now (attrs .entry)) r (λ v. pressed v key) ⌝ }
+{
+    match key {
+        Key::Typed(byte) => {
+            let writing = write(frame, attrs, Writer::Operator, byte);
+            writing.decision
+        }
+        Key::Back => go_back(frame, attrs),
+        Key::Tab => tab(frame, attrs),
+        Key::Send => transmit(frame, attrs, Area::Unprotected),
+        Key::Delete => char_delete(frame, attrs),
+        Key::Function(number) => saying(
+            frame,
+            Say::Two {
+                code: 40,
+                a: number,
+            },
+        ),
+        Key::Meaningless => quiet(frame),
+    }
+}

@@ -1,0 +1,107 @@
+// What every operation asks of its sizes, session and buffers, in document 01's order.
+ghost use mathlib.Core.Path.{_≡_};
+ghost use Rattle.rules.specs.Session.{sizesOk, replyRoom, fresh, allPrintable, sessionOk};
+ghost use Rattle.rules.specs.Refusal.{verdict, sizeTests, stateTests};
+ghost use Rattle.rules.specs.Operation.{hostRefusal};
+ghost use Rattle.det.specs.Settled.{lent};
+use crate::text::is_printable;
+use rules::Refusal;
+use rules::Session;
+use screen::cell::on_screen;
+
+// M is 1 to 132, N is 1 to 64. The numbers are wide, so that nothing a caller passes is cut off.
+fn sizes_ok(m: usize, n: usize) -> bool
+    ensures { λ r. ⌜ r ≡ sizesOk m n ⌝ }
+{
+    if m < 1 {
+        return false;
+    }
+    if 132 < m {
+        return false;
+    }
+    1 <= n && n <= 64
+}
+
+fn all_printable(chars: &[u8]) -> bool
+    ensures { λ r. ⌜ r ≡ allPrintable (now (chars .entry)) ⌝ }
+{
+    let mut i = 0;
+    while i < chars.len() {
+        let text = is_printable(chars[i]);
+        if !text {
+            return false;
+        }
+        i += 1;
+    }
+    true
+}
+
+// The cursor is on the screen, and at most six bytes are held.
+fn session_ok(session: Session) -> bool
+    ensures { λ r. ⌜ r ≡ sessionOk session ⌝ }
+{
+    let cursor = session.cursor;
+    let inside = on_screen(session.width, session.height, cursor);
+    if !inside {
+        return false;
+    }
+    session.held.count <= 6
+}
+
+// The worst single reply: 7C + 2.
+pub(crate) fn reply_room(session: Session) -> usize
+    ensures { λ r. ⌜ r ≡ replyRoom session ⌝ }
+{
+    7 * (session.height as usize * session.width as usize) + 2
+}
+
+// Refusals 1 and 2, all that open has.
+pub(crate) fn refuse_sizes(m: usize, n: usize, chars: &[u8], attrs: &[u8]) -> Refusal
+    ensures { λ r. ⌜ r ≡ verdict (sizeTests (fresh m n) (now (attrs .entry)) (now (chars .entry))) ⌝ }
+{
+    let sized = sizes_ok(m, n);
+    if !sized {
+        return Refusal::Size;
+    }
+    if chars.len() != n * m {
+        return Refusal::BufferLength;
+    }
+    if attrs.len() != n * m {
+        return Refusal::BufferLength;
+    }
+    Refusal::Taken
+}
+
+// Refusals 3 to 5.
+fn refuse_state(session: Session, chars: &[u8], reply: &[u8]) -> Refusal
+    ensures { λ r. ⌜ r ≡ verdict (stateTests session (now (chars .entry)) (now (reply .entry))) ⌝ }
+{
+    let printable = all_printable(chars);
+    if !printable {
+        return Refusal::BadCharacter;
+    }
+    let sound = session_ok(session);
+    if !sound {
+        return Refusal::BadSession;
+    }
+    if reply.len() < reply_room(session) {
+        return Refusal::ReplyRoom;
+    }
+    Refusal::Taken
+}
+
+// Refusals 1 to 5, of host bytes and of a key.
+pub(crate) fn refuse(session: Session, chars: &[u8], attrs: &[u8], reply: &[u8]) -> Refusal
+    ensures { λ r. ⌜ r ≡ hostRefusal (lent session (now (attrs .entry)) (now (chars .entry))) (now (reply .entry)) ⌝ }
+{
+    let why = refuse_sizes(
+        session.width as usize,
+        session.height as usize,
+        chars,
+        attrs,
+    );
+    let Refusal::Taken = why else {
+        return why;
+    };
+    refuse_state(session, chars, reply)
+}

@@ -1,0 +1,221 @@
+// The session and the lengths of the lent buffers, and what each order does to them.
+use crate::number::least;
+use crate::order::Order;
+use rules::Answer;
+use rules::Held;
+use rules::Session;
+use screen::cell::Column;
+use screen::cell::Line;
+use screen::cell::Place;
+
+// What stands in a buffer before its first call.
+const CHAR: u8 = 0x2a;
+
+const ATTR: u8 = 0x11;
+
+const REPLY: u8 = 0xa5;
+
+// The last call's answer, whose session is the one in use, and the lengths of the buffers: no reply buffer for `open`.
+pub struct Desk {
+    pub answer: Answer,
+    pub chars: usize,
+    pub attrs: usize,
+    pub room: usize,
+}
+
+// The first bytes of a buffer are all this one.
+fn fill(buffer: &mut [u8], length: usize, byte: u8) {
+    let end = least(length, buffer.len());
+    let mut i = 0;
+    while i < end {
+        buffer[i] = byte;
+        i += 1;
+    }
+}
+
+fn copy(from: &[u8], to: &mut [u8], length: usize) {
+    let end = least(least(length, from.len()), to.len());
+    let mut i = 0;
+    while i < end {
+        to[i] = from[i];
+        i += 1;
+    }
+}
+
+fn open(
+    width: usize,
+    height: usize,
+    chars: &mut [u8],
+    c: usize,
+    attrs: &mut [u8],
+    a: usize,
+) -> Desk {
+    fill(chars, c, CHAR);
+    fill(attrs, a, ATTR);
+    let n = least(c, chars.len());
+    let k = least(a, attrs.len());
+    let answer = det::operation::open(width, height, &mut chars[0..n], &mut attrs[0..k]);
+    Desk {
+        answer: answer,
+        chars: c,
+        attrs: a,
+        room: 0,
+    }
+}
+
+// Before the first order: as after an `open` that is refused, with empty buffers.
+pub fn fresh(chars: &mut [u8], attrs: &mut [u8]) -> Desk {
+    open(0, 0, chars, 0, attrs, 0)
+}
+
+fn host(
+    desk: Desk,
+    input: &[u8],
+    count: usize,
+    chars: &mut [u8],
+    attrs: &mut [u8],
+    reply: &mut [u8],
+    room: usize,
+) -> Desk {
+    fill(reply, room, REPLY);
+    let last = desk.answer;
+    let i = least(count, input.len());
+    let c = least(desk.chars, chars.len());
+    let a = least(desk.attrs, attrs.len());
+    let r = least(room, reply.len());
+    let answer = det::operation::host_bytes(
+        last.session,
+        &input[0..i],
+        &mut chars[0..c],
+        &mut attrs[0..a],
+        &mut reply[0..r],
+    );
+    Desk {
+        answer: answer,
+        chars: desk.chars,
+        attrs: desk.attrs,
+        room: room,
+    }
+}
+
+fn key(desk: Desk, key: u8, chars: &mut [u8], attrs: &[u8], reply: &mut [u8], room: usize) -> Desk {
+    fill(reply, room, REPLY);
+    let last = desk.answer;
+    let c = least(desk.chars, chars.len());
+    let a = least(desk.attrs, attrs.len());
+    let r = least(room, reply.len());
+    let answer = det::operation::key(
+        last.session,
+        key,
+        &mut chars[0..c],
+        &attrs[0..a],
+        &mut reply[0..r],
+    );
+    Desk {
+        answer: answer,
+        chars: desk.chars,
+        attrs: desk.attrs,
+        room: room,
+    }
+}
+
+// The desk with another session.
+fn with_session(desk: Desk, session: Session) -> Desk {
+    let last = desk.answer;
+    let refusal = last.refusal;
+    let answer = Answer {
+        session: session,
+        refusal: refusal,
+        taken: last.taken,
+        written: last.written,
+    };
+    Desk {
+        answer: answer,
+        chars: desk.chars,
+        attrs: desk.attrs,
+        room: desk.room,
+    }
+}
+
+fn session_of(desk: Desk) -> Session {
+    let answer = desk.answer;
+    answer.session
+}
+
+fn set_chars(desk: Desk, from: &[u8], chars: &mut [u8], length: usize) -> Desk {
+    copy(from, chars, length);
+    let mut desk = desk;
+    desk.chars = length;
+    desk
+}
+
+fn set_attrs(desk: Desk, from: &[u8], attrs: &mut [u8], length: usize) -> Desk {
+    copy(from, attrs, length);
+    let mut desk = desk;
+    desk.attrs = length;
+    desk
+}
+
+fn set_cursor(desk: Desk, x: u8, y: u8) -> Desk {
+    let mut session = session_of(desk);
+    let cursor = Place {
+        x: Column(x),
+        y: Line(y),
+    };
+    session.cursor = cursor;
+    with_session(desk, session)
+}
+
+fn set_held(desk: Desk, count: u8) -> Desk {
+    let mut session = session_of(desk);
+    let old = session.held;
+    let bytes = old.bytes;
+    let held = Held {
+        bytes: bytes,
+        count: count,
+    };
+    session.held = held;
+    with_session(desk, session)
+}
+
+fn set_det(desk: Desk, on: bool) -> Desk {
+    let mut session = session_of(desk);
+    session.det = on;
+    with_session(desk, session)
+}
+
+fn set_suppressed(desk: Desk, on: bool) -> Desk {
+    let mut session = session_of(desk);
+    session.suppressed = on;
+    with_session(desk, session)
+}
+
+// Does what the order says.
+pub fn obey(
+    desk: Desk,
+    order: Order,
+    bytes: &[u8],
+    chars: &mut [u8],
+    attrs: &mut [u8],
+    reply: &mut [u8],
+) -> Desk {
+    match order {
+        Order::Open {
+            width,
+            height,
+            chars: c,
+            attrs: a,
+        } => open(width, height, chars, c, attrs, a),
+        Order::Chars(length) => set_chars(desk, bytes, chars, length),
+        Order::Attrs(length) => set_attrs(desk, bytes, attrs, length),
+        Order::Cursor { x, y } => set_cursor(desk, x, y),
+        Order::Held(count) => set_held(desk, count),
+        Order::Det(on) => set_det(desk, on),
+        Order::Suppress(on) => set_suppressed(desk, on),
+        Order::Host { count, room } => host(desk, bytes, count, chars, attrs, reply, room),
+        Order::Key { key: code, room } => key(desk, code, chars, attrs, reply, room),
+        Order::State => desk,
+        Order::End => desk,
+        Order::Bad => desk,
+    }
+}

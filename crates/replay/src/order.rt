@@ -1,0 +1,249 @@
+// A line of the script, read as an order.
+use crate::field;
+use crate::number::least;
+use crate::source;
+use crate::source::Source;
+use crate::source::Stand;
+
+// The most that a screen's size, a buffer's length, the host bytes and a reply buffer's length may be.
+const SIZE: usize = 65_535;
+
+const BUFFER: usize = 8_448;
+
+const INPUT: usize = 65_536;
+
+const ROOM: usize = 80_000;
+
+pub enum Order {
+    Open {
+        width: usize,
+        height: usize,
+        chars: usize,
+        attrs: usize,
+    },
+    // so many bytes replace the characters, or the attributes
+    Chars(usize),
+    Attrs(usize),
+    Cursor {
+        x: u8,
+        y: u8,
+    },
+    Held(u8),
+    Det(bool),
+    Suppress(bool),
+    Host {
+        count: usize,
+        room: usize,
+    },
+    Key {
+        key: u8,
+        room: usize,
+    },
+    State,
+    // no line is left
+    End,
+    // no order
+    Bad,
+}
+
+// The line's order, and where the next line begins.
+pub struct Parsed {
+    pub source: Source,
+    pub order: Order,
+}
+
+enum Word {
+    Open,
+    Chars,
+    Attrs,
+    Cursor,
+    Held,
+    Det,
+    Suppress,
+    Host,
+    Key,
+    State,
+    Unknown,
+}
+
+// Are the two the same bytes?
+fn same(a: &[u8], b: &[u8]) -> bool {
+    if a.len() != b.len() {
+        return false;
+    }
+    let mut i = 0;
+    while i < a.len() {
+        if a[i] != b[i] {
+            return false;
+        }
+        i += 1;
+    }
+    true
+}
+
+// The words of calls.
+fn call_word(word: &[u8]) -> Word {
+    if same(word, b"host") {
+        return Word::Host;
+    }
+    if same(word, b"key") {
+        return Word::Key;
+    }
+    if same(word, b"open") {
+        return Word::Open;
+    }
+    if same(word, b"state") {
+        return Word::State;
+    }
+    Word::Unknown
+}
+
+// The words of what is set without a call, and the others.
+fn word_of(letters: &[u8], length: usize) -> Word {
+    let n = least(length, letters.len());
+    let word = &letters[0..n];
+    if same(word, b"chars") {
+        return Word::Chars;
+    }
+    if same(word, b"attrs") {
+        return Word::Attrs;
+    }
+    if same(word, b"cursor") {
+        return Word::Cursor;
+    }
+    if same(word, b"held") {
+        return Word::Held;
+    }
+    if same(word, b"det") {
+        return Word::Det;
+    }
+    if same(word, b"suppress") {
+        return Word::Suppress;
+    }
+    call_word(word)
+}
+
+// The order, if the line ends here. A line that cannot be read is the last.
+fn closed(source: Source, order: Order) -> Parsed {
+    let stand = source.stand;
+    match stand {
+        Stand::LineEnd => Parsed {
+            source: source,
+            order: order,
+        },
+        Stand::InputEnd => Parsed {
+            source: source,
+            order: order,
+        },
+        Stand::Failed => Parsed {
+            source: source,
+            order: Order::End,
+        },
+        _ => Parsed {
+            source: source,
+            order: Order::Bad,
+        },
+    }
+}
+
+fn open(block: &mut [u8], source: Source) -> Parsed {
+    let width = field::number(block, source, SIZE);
+    let height = field::number(block, width.source, SIZE);
+    let chars = field::number(block, height.source, BUFFER);
+    let attrs = field::number(block, chars.source, BUFFER);
+    let order = Order::Open {
+        width: width.value,
+        height: height.value,
+        chars: chars.value,
+        attrs: attrs.value,
+    };
+    closed(attrs.source, order)
+}
+
+fn chars(block: &mut [u8], source: Source, bytes: &mut [u8]) -> Parsed {
+    let count = field::bytes(block, source, bytes, BUFFER);
+    closed(count.source, Order::Chars(count.value))
+}
+
+fn attrs(block: &mut [u8], source: Source, bytes: &mut [u8]) -> Parsed {
+    let count = field::bytes(block, source, bytes, BUFFER);
+    closed(count.source, Order::Attrs(count.value))
+}
+
+fn cursor(block: &mut [u8], source: Source) -> Parsed {
+    let x = field::number(block, source, 255);
+    let y = field::number(block, x.source, 255);
+    let order = Order::Cursor {
+        x: x.value as u8,
+        y: y.value as u8,
+    };
+    closed(y.source, order)
+}
+
+fn held(block: &mut [u8], source: Source) -> Parsed {
+    let count = field::number(block, source, 255);
+    closed(count.source, Order::Held(count.value as u8))
+}
+
+fn det(block: &mut [u8], source: Source) -> Parsed {
+    let on = field::number(block, source, 1);
+    closed(on.source, Order::Det(on.value == 1))
+}
+
+fn suppress(block: &mut [u8], source: Source) -> Parsed {
+    let on = field::number(block, source, 1);
+    closed(on.source, Order::Suppress(on.value == 1))
+}
+
+fn host(block: &mut [u8], source: Source, bytes: &mut [u8]) -> Parsed {
+    let count = field::bytes(block, source, bytes, INPUT);
+    let room = field::number(block, count.source, ROOM);
+    let order = Order::Host {
+        count: count.value,
+        room: room.value,
+    };
+    closed(room.source, order)
+}
+
+fn key(block: &mut [u8], source: Source) -> Parsed {
+    let key = field::number(block, source, 255);
+    let room = field::number(block, key.source, ROOM);
+    let order = Order::Key {
+        key: key.value as u8,
+        room: room.value,
+    };
+    closed(room.source, order)
+}
+
+// A line without a word: the end of the input, or a bad line.
+fn wordless(source: Source) -> Parsed {
+    let stand = source.stand;
+    if let Stand::InputEnd = stand {
+        return closed(source, Order::End);
+    }
+    closed(source, Order::Bad)
+}
+
+// Reads a line. The bytes of an order that has some go to the start of `bytes`.
+pub fn read(block: &mut [u8], source: Source, bytes: &mut [u8]) -> Parsed {
+    let mut letters = [0u8; 8];
+    let field = field::word(block, source::begin(source), &mut letters);
+    let after = field.source;
+    if field.value == 0 {
+        return wordless(after);
+    }
+    let word = word_of(&letters, field.value);
+    match word {
+        Word::Open => open(block, after),
+        Word::Chars => chars(block, after, bytes),
+        Word::Attrs => attrs(block, after, bytes),
+        Word::Cursor => cursor(block, after),
+        Word::Held => held(block, after),
+        Word::Det => det(block, after),
+        Word::Suppress => suppress(block, after),
+        Word::Host => host(block, after, bytes),
+        Word::Key => key(block, after),
+        Word::State => closed(after, Order::State),
+        Word::Unknown => closed(after, Order::Bad),
+    }
+}

@@ -80,17 +80,17 @@ keyTests v k =
 
 -- ---- what each does
 
--- 8: the previous cell that is not guarded; none, the cursor stays
+-- 8: back to the nearest open cell, if there is one
 unfoldable pub previousOpen : View → ℕ
 previousOpen v = lastBefore (λ i. not (guardedAt (v .session .suppressed) (v .attrs) i)) (v .attrs) (cursorCell v) (cursorCell v)
 
--- 9: the next unprotected field's start after the cursor, else the first, else the cursor stays
+-- 9: on to the next unprotected field, or round to the first, if there is any
 unfoldable pub nextField : View → ℕ
 nextField v =
     firstFrom (opensAt (v .attrs)) (v .attrs) (cursorCell v + 1) (firstFrom (opensAt (v .attrs)) (v .attrs) 0 (cursorCell v))
 
 unfoldable pub pressed : View → Key → Effect
--- 32 to 126: written, and the cursor goes to the next cell that is not guarded
+-- a character that is typed moves the cursor on to an open cell
 pressed v (Typed c) = changing (movedTo v (nextOpen (v .session .suppressed) (v .attrs) (cursorCell v))) (put (cursorCell v) c ∷ [])
 -- 8, 9
 pressed v Back = quiet (movedTo v (previousOpen v))

@@ -12,19 +12,19 @@ use Rattle.screen.specs.Cells.{place, cellOf, onScreen}
 use Rattle.rules.specs.declared.Held.{Held}
 use Rattle.rules.specs.declared.Session.{Session}
 
--- M is 1 to 132, N is 1 to 64
+-- the widths and heights that a screen may have
 abbrev pub sizesOk : ℕ → ℕ → Bool
 sizesOk m n = between 1 132 m && between 1 64 n
 
--- C = M x N
+-- the document's C, the number of cells
 abbrev pub cells : Session → ℕ
 cells s = s .height * s .width
 
--- the worst single reply
+-- the longest that one reply can be
 abbrev pub replyRoom : Session → ℕ
 replyRoom s = 7 * cells s + 2
 
--- every character is 32 to 126
+-- what a cell may hold
 abbrev pub printable : ℕ → Bool
 printable c = between 32 126 c
 
@@ -41,7 +41,7 @@ sessionOk s = onScreen (s .width) (s .height) (s .cursor) && leb (s .held .count
 abbrev pub noneHeld : Held
 noneHeld = record { bytes = 0 ∷ 0 ∷ 0 ∷ 0 ∷ 0 ∷ 0 ∷ []; count = 0 }
 
--- at opening: cursor (0,0), DET off, protection in effect, nothing half read, held bytes 0
+-- the session that an open starts with
 abbrev pub fresh : ℕ → ℕ → Session
 fresh m n =
     record { width = m; height = n; cursor = place 0 0; det = false; suppressed = false; phase = Rest; held = noneHeld }

@@ -33,25 +33,25 @@ use Rattle.rules.specs.Command.{commandOf, codeIn, parameter, formatCoun
 abbrev pub movedTo : View → ℕ → View
 movedTo v cell = withCursor v (placeOf (v .session .width) cell)
 
--- 5: x above M-1 or y above N-1 is limited
+-- 5: a place beyond the screen's edge is brought back to the edge
 abbrev pub limited : View → Held → Place
 limited v h = place (min (parameter h 0) (v .session .width - 1)) (min (parameter h 1) (v .session .height - 1))
 
--- 12: the first unprotected cell while protection is in effect and one exists, else (0,0)
+-- 12: home is the first open cell of the form; the screen's corner where there is none or nothing is guarded
 unfoldable pub homeCell : View → ℕ
 homeCell v = if v .session .suppressed then 0 else firstFrom (λ i. not (protectedAt (v .attrs) i)) (v .attrs) 0 0
 
--- 19: the last start of an unprotected field strictly before the cursor; none, or protection suppressed: (0,0)
+-- 19: back to the nearest unprotected field that starts before the cursor's cell, or to the corner
 unfoldable pub backTabCell : View → ℕ
 backTabCell v = if v .session .suppressed then 0 else lastBefore (opensAt (v .attrs)) (v .attrs) (cursorCell v) 0
 
--- 21: the first unprotected field's start, else (0,0); suppression does not matter
+-- 21, 35: where the form's first unprotected field starts, or the corner, suppressed or not
 unfoldable pub firstFieldCell : View → ℕ
 firstFieldCell v = firstFrom (opensAt (v .attrs)) (v .attrs) 0 0
 
 -- ---- transmissions
 
--- each transmission is prefaced by 28 x y: its first cell
+-- every transmission starts with 28 and the place of the first cell it sends
 abbrev pub preface : View → ℕ → Part
 preface v cell = let p = placeOf (v .session .width) cell in message (28 ∷ p .x .0 ∷ p .y .0 ∷ [])
 
@@ -72,21 +72,21 @@ abbrev pub unlessGuarded : View → Part → List Part
 unlessGuarded v p = if cursorGuarded v then [] else p ∷ []
 
 unfoldable pub transmitted : View → Area → Effect
--- 20: all characters, then the cursor at (0,0)
+-- 20: the whole screen; the cursor goes to the corner
 transmitted v WholeScreen = saying (withCursor v (place 0 0)) (preface v 0 ∷ text 0 (screenEnd v) ∷ [])
--- 21: all unprotected fields in order; the cursor to the first one's start, else (0,0)
+-- 21: every unprotected field, and the cursor to the first of them
 transmitted v Unprotected =
     saying (movedTo v (firstFieldCell v)) (preface v (firstFieldCell v) ∷ withoutFirst (fieldTexts (v .attrs) 0 (screenEnd v)))
--- 22: the cursor's line, then the cursor at the start of the next, or of this one if it is the last
+-- 22: the line of the cursor, which then goes to the start of the line below, or of its own where there is none
 transmitted v WholeLine =
     let s = v .session in
     saying (withCursor v (place 0 ((stepped s Down) .y .0)))
     (preface v (lineStart (s .width) (s .cursor .y)) ∷ text (lineStart (s .width) (s .cursor .y)) (lineEnd (s .width) (s .cursor .y)) ∷ [])
--- 24, 25: from the cursor to the end of the screen, of the line; the cursor stays
+-- 24, 25: what is left of the screen, or of the line, from the cursor on
 transmitted v RestOfScreen = saying v (preface v (cursorCell v) ∷ text (cursorCell v) (screenEnd v) ∷ [])
 transmitted v RestOfLine =
     let s = v .session in saying v (preface v (cursorCell v) ∷ text (cursorCell v) (lineEnd (s .width) (s .cursor .y)) ∷ [])
--- 23, 26: the cursor's field, whole and from the cursor on; the cursor stays
+-- 23, 26: the field that the cursor is in, or what is left of it
 transmitted v WholeField =
     let start = fieldStart (v .attrs) (cursorCell v) in
     saying v (preface v (if cursorGuarded v then cursorCell v else start) ∷ unlessGuarded v (text start (fieldEnd (v .attrs) (cursorCell v))))
@@ -96,12 +96,12 @@ transmitted v RestOfField =
 -- ---- erasures
 
 unfoldable pub erasure : View → Area → Effect
--- 29: all spaces, attributes 0, cursor (0,0)
+-- 29: a blank screen with nothing protected, and the cursor in its corner
 erasure v WholeScreen =
     changing (withAttrs (withCursor v (place 0 0)) (replicate (screenEnd v) 0)) (erase true 0 (screenEnd v) ∷ [])
--- 35: spaces in all unprotected cells, cursor as after 21
+-- 35: the open cells of the form are blanked; the cursor goes where 21 leaves it
 erasure v Unprotected = changing (movedTo v (firstFieldCell v)) (erase false 0 (screenEnd v) ∷ [])
--- 30 to 34: spaces in the cells of the line, the field, the rest of screen, line and field that are not guarded; the cursor stays
+-- 30 to 34: the line, the field, and the rests of screen, line and field are blanked where they are not guarded
 erasure v WholeLine =
     let s = v .session in
     changing v (erase (s .suppressed) (lineStart (s .width) (s .cursor .y)) (lineEnd (s .width) (s .cursor .y)) ∷ [])
@@ -160,14 +160,14 @@ obeyed v ReverseTab h = quiet (movedTo v (backTabCell v))
 obeyed v (Transmit area) h = transmitted v area
 -- 29 to 35
 obeyed v (Erase area) h = erasure v area
--- 36: the attributes of count cells from the cursor on; characters and cursor stay
+-- 36: attribute bytes only, from the cursor on
 obeyed v FormatData h =
     quiet (withAttrs v (formatted (cursorCell v) (cursorCell v + formatCount h) (parameter h 0) (v .attrs)))
--- 37: written count times as host data
+-- 37: as if the host had sent the character so often
 obeyed v Repeat h = hostCharacters (parameter h 0) v (parameter h 1)
 -- 38
 obeyed v SuppressProtection h = suppressing v (parameter h 0)
--- 41: no answer, no effect
+-- 41: taken and forgotten
 obeyed v Error h = quiet v
 
 -- ---- check order and ERROR

@@ -52,7 +52,7 @@ stepped s Down = place (s .cursor .x .0) (if ltb (s .cursor .y .0 + 1) (s .heigh
 stepped s Left = place (s .cursor .x .0 - 1) (s .cursor .y .0)
 stepped s Right = place (if ltb (s .cursor .x .0 + 1) (s .width) then s .cursor .x .0 + 1 else s .cursor .x .0) (s .cursor .y .0)
 
--- the next cell; at the last cell the cursor stays
+-- one cell on, and from the last cell nowhere
 unfoldable pub nextPlace : Session → Place
 nextPlace s =
     if ltb (s .cursor .x .0 + 1) (s .width) then place (s .cursor .x .0 + 1) (s .cursor .y .0)
@@ -61,7 +61,7 @@ nextPlace s =
 
 -- ---- item 5: host data
 
--- a host character: dropped on a guarded cell, else written; its class is not tested
+-- a character from the host is lost on a guarded cell and written on any other, whatever the cell's class
 unfoldable pub hostCharacter : View → ℕ → Effect
 hostCharacter v c =
     if cursorGuarded v then quiet v
@@ -75,7 +75,7 @@ hostCharacters (suc n) v c =
     let rest = hostCharacters n (one .view) c in
     changing (rest .view) (one .changes ++ rest .changes)
 
--- 32 to 126 is written; CR (13), LF (10) and BS (8) move the cursor; other data does nothing
+-- printable bytes are written, CR, LF and BS move the cursor, all other bytes are passed over
 unfoldable pub hostData : View → ℕ → Effect
 hostData v b =
     if printable b then hostCharacter v b

@@ -10,7 +10,7 @@ use Rattle.screen.specs.declared.cell.Place.{Place}
 abbrev pub place : ℕ → ℕ → Place
 place x y = record { x = record { 0 = x }; y = record { 0 = y } }
 
--- cell x,y stands at y x M + x
+-- a place's cell: the lines stand one after the other
 abbrev pub cellOf : ℕ → Place → ℕ
 cellOf width p = p .y .0 * width + p .x .0
 

@@ -5,11 +5,11 @@ use lib.Dec.{eqb}
 use Rattle.screen.specs.Words.{if_then_else_, between}
 use Rattle.screen.specs.Attributes.{protection}
 
--- class 2 takes letters and space
+-- what an alphabetic cell takes (protection 2): a letter or the space
 abbrev pub alphabetic : ℕ → Bool
 alphabetic b = between 65 90 b || (between 97 122 b || eqb b 32)
 
--- class 3 takes digits, space, plus, minus and point
+-- what a numeric cell takes (protection 3): what a number is written with, or the space
 abbrev pub numeric : ℕ → Bool
 numeric b = between 48 57 b || (eqb b 32 || (eqb b 43 || (eqb b 45 || eqb b 46)))
 

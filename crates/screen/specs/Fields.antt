@@ -44,7 +44,7 @@ fieldStart attrs i = lastBefore (startsAt attrs) attrs (i + 1) 0
 unfoldable pub fieldEnd : List ℕ → ℕ → ℕ
 fieldEnd attrs i = firstFrom (startsAt attrs) attrs (i + 1) (length attrs)
 
--- The document's term "edit span": from the cursor to the end of its field or its line, the nearer; while protection is
--- suppressed, to the end of the line. This is its end.
+-- The document's term "edit span", by its end: it starts at the cursor and stops where the cursor's field or line stops, whichever
+-- comes first; with protection suppressed only the line's end stops it.
 unfoldable pub spanEnd : Bool → List ℕ → ℕ → ℕ → ℕ
 spanEnd suppressed attrs cursor lineEnd = if suppressed then lineEnd else min (fieldEnd attrs cursor) lineEnd

@@ -45,7 +45,7 @@ afterIac b =
     else if eqb b (verbCode Dont) then silent (Negotiating Dont)
     else silent Rest
 
--- Item 2: IAC with anything but IAC or SE throws the subnegotiation away, and the command is obeyed as if outside.
+-- Item 2: any other command inside a subnegotiation ends it unheard, and is itself obeyed as it would be outside.
 unfoldable pub thrownAway : ℕ → Step
 thrownAway b = tells ((afterIac b) .phase) Lost
 

@@ -19,11 +19,8 @@ use Rattle.det.proofs.decision.Change.{the-type}
 use Rattle.det.specs.declared.frame.Frame.{Frame}
 use Rattle.det.specs.declared.decision.Change.{Change}
 use Rattle.det.specs.declared.decision.Change.the-variants.{Nothing, Put, Erase, Insert, Delete, Repeat}
-use Rattle.det.specs.declared.text.Writer.the-variants.{Host}
-use Rattle.det.specs.declared.text.Writing.{Writing}
 use Rattle.det.specs.Frame.{sessionOf, viewOf}
 use Rattle.det.specs.Decision.{changeOf, editsOf, Once}
-use Rattle.det.specs.Writing.{writtenBy, Writes}
 use Rattle.det.specs.Apply.{Changes}
 
 -- what the other arm of a match on Repeat knows
@@ -55,29 +52,6 @@ unfolding hostCharacters
 one-less zero v c h = absurd (not-suc-le-zero h)
 one-less (suc k) v c h = let e : suc k - 1 ≡ k = omega arith in rw e
 
-module _ {f : Frame} {attrs : List ℕ} {c : ℕ} {w : Writing} (one : Writes f attrs Host c w) (phase : Phase) (held : Held) where
-  abbrev v : View
-  v = viewOf f phase held attrs
-
-  abbrev v₁ : View
-  v₁ = viewOf (w .decision .frame) phase held attrs
-
-  -- the character's view and change, as they were decided
-  one-view : v₁ ≡ (hostCharacter v c) .view
-  unfolding writtenBy
-  one-view =
-      let m = rw (one .once v₁) at (one .decision .meaning phase held) in
-      λ i. record { session = (m i) .view .session; attrs = sym (host-attrs v c) i }
-
-  one-changes : editsOf (w .decision .change) ≡ (hostCharacter v c) .changes
-  unfolding writtenBy
-  one-changes = ap (λ (e : Effect). e .changes) (rw (one .once v₁) at (one .decision .meaning phase held))
-
-  -- REPEAT is one character, and then one less
-  repeat-less : (k : ℕ) → 0 < k → let rest = hostCharacters (k - 1) v₁ c in
-      hostCharacters k v c ≡ changing (rest .view) (editsOf (w .decision .change) ++ rest .changes)
-  repeat-less k h = rw (one-view, one-changes) (one-less k v c h)
-
 -- n characters from a frame and these characters on: what k more do from here is what they all do
 pub record Repeating (attrs : List ℕ) (c n : ℕ) (f₀ : Frame) (chars₀ : List ℕ) (k : ℕ) (f : Frame) (chars : List ℕ) : Type 0 where
   pub all : (phase : Phase) (held : Held) {s : Session} {chars′ : List ℕ} → Changes (hostCharacters k (viewOf f phase held attrs) c) attrs chars s chars′
@@ -88,12 +62,16 @@ repeating-start = record { all = λ phase held d. d }
 
 module _ {attrs : List ℕ} {c n : ℕ} {f₀ : Frame} {chars₀ : List ℕ} {k : ℕ} {f : Frame} {chars : List ℕ} (r : Repeating attrs c n f₀ chars₀ k f chars) where
   -- one more is done
-  pub repeating-more : {w : Writing} {chars₁ : List ℕ} → 0 < k → Writes f attrs Host c w
-      → chars₁ ≡ changedAll attrs (editsOf (w .decision .change)) chars → Repeating attrs c n f₀ chars₀ (k - 1) (w .decision .frame) chars₁
-  repeating-more h one e = record {
+  pub repeating-more : {f′ : Frame} {chars′ : List ℕ} → 0 < k
+      → ((phase : Phase) (held : Held) → Changes (hostCharacter (viewOf f phase held attrs) c) attrs chars (sessionOf f′ phase held) chars′)
+      → Repeating attrs c n f₀ chars₀ (k - 1) f′ chars′
+  repeating-more {f′} h one = record {
     all = λ phase held d.
-        let less = repeat-less one phase held k h in
-        r .all phase held (record { session = rw less (d .session); characters = rw (less, changed-append, ← e) (d .characters) });
+        let o = one phase held in
+        let v = viewOf f phase held attrs in
+        let after : viewOf f′ phase held attrs ≡ (hostCharacter v c) .view = λ i. record { session = (o .session) i; attrs = sym (host-attrs v c) i } in
+        let less = one-less k v c h in
+        r .all phase held (record { session = rw (less, ← after) (d .session); characters = rw (less, changed-append, ← after, ← o .characters) (d .characters) });
   }
 
   -- none is left

@@ -3,6 +3,7 @@ pub mod WriteLaws
 pub mod ObeyLaws
 pub mod ReplyLaws
 pub mod ApplyLaws
+pub mod QuietLaws
 pub mod RefuseLaws
 pub mod SettleLaws
 pub mod TakeLaws

@@ -3,50 +3,99 @@ use mathlib.Core.Path.{_≡_, refl, sym, ap, _∙_}
 use mathlib.Core.List.{List, []}
 use Prim.Native.Nat.{ℕ, _≤_}
 use native.Mathlib.Omega.{arith}
+use lib.Dec.{eqb}
 use lib.ListN.{length, drop, length-drop}
 use Rattle.telnet.specs.declared.Phase.{Phase}
 use Rattle.telnet.specs.declared.Event.{Event}
 use Rattle.telnet.specs.declared.Step.{Step}
 use Rattle.telnet.specs.Reader.{readOf}
+use Rattle.screen.proofs.WordLaws.{either}
 use Rattle.rules.specs.declared.Held.{Held}
 use Rattle.rules.specs.declared.Session.{Session}
 use Rattle.rules.specs.declared.Refusal.{Refusal}
 use Rattle.rules.specs.declared.Refusal.the-variants.{Taken}
-use Rattle.rules.specs.Session.{View, replyRoom}
+use Rattle.rules.specs.Session.{View, printable, replyRoom}
 use Rattle.rules.specs.Refusal.{isTaken}
-use Rattle.rules.specs.Effect.{Effect, spelledAll, quiet}
+use Rattle.rules.specs.Effect.{Effect, changedAll, spelledAll, changing, quiet}
+use Rattle.rules.specs.Telnet.{cursorGuarded, hostCharacter, hostData}
 use Rattle.rules.specs.Operation.{happening, hostByte, hostRefusal}
 use Rattle.rules.specs.Call.{host}
 use Rattle.rules.proofs.Sound.{Accepted, sound-of}
 use Rattle.rules.proofs.Room.{room-byte}
 use Rattle.det.specs.declared.frame.Frame.{Frame}
 use Rattle.det.specs.declared.decision.Decision.{Decision}
-use Rattle.det.specs.declared.decision.Change.the-variants.{Nothing}
 use Rattle.det.specs.declared.decision.Say.{Say}
-use Rattle.det.specs.declared.decision.Say.the-variants.{Silent}
-use Rattle.det.specs.declared.decision.Format.the-variants.{Keep}
+use Rattle.det.specs.declared.apply.Applied.{Applied}
 use Rattle.det.specs.Frame.{sessionOf, viewOf, frameOf, Fits}
-use Rattle.det.specs.Decision.{decision, meant, shown, partsOf, Sendable, Decides}
-use Rattle.det.specs.Reply.{Sayable}
-use Rattle.det.specs.Apply.{Applies}
+use Rattle.det.specs.Decision.{meant, shown, partsOf, Sendable, Decides}
+use Rattle.det.specs.Reply.{Room, Sayable}
+use Rattle.det.specs.Apply.{Changes, Applies}
 use Rattle.det.specs.Settled.{lent}
-use Rattle.det.specs.Take.{Accepts, heldAfter, Takes}
-use Rattle.det.proofs.DecideLaws.{decides}
+use Rattle.det.specs.Take.{Accepts, Answerable, heldAfter}
+use Rattle.det.proofs.ReplyLaws.{emitted-none}
 
--- ---- what is decided
+-- ---- what the reader told, done
 
-module _ {f : Frame} {attrs : List ℕ} {held : Held} {event : Event} {d : Decision} where
-  -- by the rule that the event goes by once the bytes held are those after it
-  pub takes : {rule : View → Effect} → Decides f attrs d rule
-      → ((phase : Phase) → rule (viewOf f phase (heldAfter held event) attrs) ≡ happening (viewOf f phase held attrs) event)
-      → Takes f attrs held event d
-  takes p e = record { meaning = λ phase. p .meaning phase _ ∙ ap shown (e phase); sendable = p .sendable }
+module _ {f : Frame} {attrs chars reply : List ℕ} {held : Held} {event : Event} {at : ℕ} (a : Answerable f attrs chars reply held event at) where
+  -- it is decided by a rule, once the bytes held are those after it
+  module _ {d : Decision} {rule : View → Effect} (p : Decides f attrs d rule)
+      (e : (phase : Phase) → rule (viewOf f phase (heldAfter held event) attrs) ≡ happening (viewOf f phase held attrs) event) where
+    means : (phase : Phase) → meant phase (heldAfter held event) attrs d ≡ shown (happening (viewOf f phase held attrs) event)
+    means phase = p .meaning phase _ ∙ ap shown (e phase)
+
+    -- the reply can be written
+    pub decided-sayable : Sayable (d .say) chars attrs reply at
+    decided-sayable =
+        let parts : partsOf attrs (d .say) ≡ (happening (viewOf f (a .phase) held attrs) event) .reply = ap (λ (q : Effect). q .reply) (means (a .phase)) in
+        record { sendable = p .sendable; long = a .long; room = rw parts (a .room) }
+
+    -- and what is applied is what the rule says
+    pub decided-applies : {f′ : Frame} {chars′ attrs′ reply′ : List ℕ} {at′ : ℕ}
+        → ((phase : Phase) (held : Held) → Applies (meant phase held attrs d) chars attrs reply at (sessionOf f′ phase held) chars′ attrs′ reply′ at′)
+        → (phase : Phase)
+        → Applies (happening (viewOf f phase held attrs) event) chars attrs reply at (sessionOf f′ phase (heldAfter held event)) chars′ attrs′ reply′ at′
+    decided-applies h phase =
+        let r = rw (means phase) at (h phase (heldAfter held event)) in
+        record {
+          changes = record { session = r .changes .session; characters = r .changes .characters };
+          attributes = r .attributes;
+          replies = r .replies;
+        }
 
   -- an event on which nothing is done
-  pub takes-quiet : d ≡ decision f Nothing Silent Keep
-      → ((phase : Phase) → quiet (viewOf f phase (heldAfter held event) attrs) ≡ happening (viewOf f phase held attrs) event)
-      → Takes f attrs held event d
-  takes-quiet q = takes (decides {rule = λ v. quiet v} q tt (λ phase held. refl))
+  pub nothing-applies : {done : Applied} → done ≡ record { frame = f; written = at }
+      → ((phase : Phase) → happening (viewOf f phase held attrs) event ≡ quiet (viewOf f phase (heldAfter held event) attrs))
+      → (phase : Phase)
+      → Applies (happening (viewOf f phase held attrs) event) chars attrs reply at (sessionOf (done .frame) phase (heldAfter held event)) chars attrs reply (done .written)
+  unfolding changedAll spelledAll
+  nothing-applies p e phase =
+      rw (p, e phase) (record { changes = record { session = refl; characters = refl }; attributes = refl; replies = emitted-none })
+
+-- ---- host data
+
+-- it keeps the attribute bytes, and draws no reply
+pub data-only : (v : View) (b : ℕ) → let e = hostData v b in
+    e ≡ changing (record { session = e .view .session; attrs = v .attrs }) (e .changes)
+unfolding hostData hostCharacter
+data-only v b =
+    let only : Effect → Type 0 = λ e. e ≡ changing (record { session = e .view .session; attrs = v .attrs }) (e .changes) in
+    either only (printable b)
+    (λ t. either only (cursorGuarded v) (λ g. refl) (λ g. refl))
+    (λ t. either only (eqb b 13) (λ p. refl) (λ p. either only (eqb b 10) (λ q. refl) (λ q. either only (eqb b 8) (λ r. refl) (λ r. refl))))
+
+module _ (f : Frame) (b : ℕ) {f′ : Frame} {attrs chars chars′ : List ℕ}
+    (h : (phase : Phase) (held : Held) → Changes (hostData (viewOf f phase held attrs) b) attrs chars (sessionOf f′ phase held) chars′) where
+  pub data-applies : {reply : List ℕ} {held : Held} {at : ℕ} {a : Applied} → a ≡ record { frame = f′; written = at } → (phase : Phase)
+      → Applies (hostData (viewOf f phase held attrs) b) chars attrs reply at (sessionOf (a .frame) phase held) chars′ attrs reply (a .written)
+  unfolding spelledAll
+  data-applies {reply} {held} {at} p phase =
+      let k = h phase held in
+      let only = data-only (viewOf f phase held attrs) b in
+      rw p (record {
+        changes = k;
+        attributes = ap (λ (e : Effect). e .view .attrs) (sym only);
+        replies = rw (ap (λ (e : Effect). e .reply) only) emitted-none;
+      })
 
 -- ---- a byte that is taken
 
@@ -66,38 +115,35 @@ module _ {s : Session} {attrs chars reply : List ℕ} {at : ℕ} (a : Accepts s 
       let v = accepted .sound .view in
       record { on = record { width = v .sizes .wide; height = v .sizes .high; x = v .cursor .0; y = v .cursor .1 }; long = v .attrs }
 
-  -- a reply no longer than the worst can be written
+  -- a reply no longer than the worst fits
+  fits-worst : {bytes : List ℕ} → length bytes ≤ replyRoom s → Room reply at bytes
+  fits-worst h = record { fits = omega (arith, accepted .room, length-drop at reply) }
+
+  equally-long : length chars ≡ length attrs
+  equally-long = let k = accepted .sound in k .chars .long ∙ sym (k .view .attrs)
+
+  -- what is said can be written, if it is no longer than the worst
   pub sayable : {say : Say} → Sendable attrs say → length (spelledAll chars (partsOf attrs say)) ≤ replyRoom s
       → Sayable say chars attrs reply at
-  sayable t h =
-      let k = accepted .sound in
-      record {
-        sendable = t;
-        long = k .chars .long ∙ sym (k .view .attrs);
-        room = record { fits = omega (arith, accepted .room, length-drop at reply) };
-      }
+  sayable t h = record { sendable = t; long = equally-long; room = fits-worst h }
 
-  module _ (b : ℕ) {step : Step} {d : Decision} (e : step ≡ readOf (s .phase) b)
-      (t : Takes (frameOf s) attrs (s .held) (step .event) d) where
-    byte-means : shown (hostByte (lent s attrs chars .view) b) ≡ meant (step .phase) (heldAfter (s .held) (step .event)) attrs d
+  module _ (b : ℕ) {step : Step} (e : step ≡ readOf (s .phase) b) where
+    byte-is : hostByte (lent s attrs chars .view) b ≡ happening (viewOf (frameOf s) (step .phase) (s .held) attrs) (step .event)
     unfolding hostByte
-    byte-means = rw (← e) (sym (t .meaning (step .phase)))
+    byte-is = rw (← e)
 
-    -- the reply can be written
-    pub byte-sayable : Sayable (d .say) chars attrs reply at
-    byte-sayable =
-        let parts : (hostByte (lent s attrs chars .view) b) .reply ≡ partsOf attrs (d .say) = ap (λ (q : Effect). q .reply) byte-means in
-        sayable (t .sendable) (rw parts at (room-byte (accepted .sound) b))
+    -- the reply to what a byte told can be written
+    pub byte-answerable : Answerable (frameOf s) attrs chars reply (s .held) (step .event) at
+    byte-answerable = record {
+      fits = accepts-fits;
+      long = equally-long;
+      phase = step .phase;
+      room = rw (← byte-is) (fits-worst (room-byte (accepted .sound) b));
+    }
 
-    -- and what is applied is what the byte does
-    pub byte-applies : {f : Frame} {held : Held} {s′ : Session} {chars′ attrs′ reply′ : List ℕ} {at′ : ℕ}
-        → held ≡ heldAfter (s .held) (step .event) → s′ ≡ sessionOf f (step .phase) held
-        → ((phase : Phase) (held : Held) → Applies (meant phase held attrs d) chars attrs reply at (sessionOf f phase held) chars′ attrs′ reply′ at′)
-        → Applies (hostByte (lent s attrs chars .view) b) chars attrs reply at s′ chars′ attrs′ reply′ at′
-    byte-applies {f} p q h =
-        let r = rw (← byte-means) at (h (step .phase) (heldAfter (s .held) (step .event))) in
-        record {
-          changes = record { session = q ∙ rw p (r .changes .session); characters = r .changes .characters };
-          attributes = r .attributes;
-          replies = r .replies;
-        }
+    -- and what is done is what the byte does
+    pub byte-applies : {f : Frame} {held : Held} {chars′ attrs′ reply′ : List ℕ} {at′ : ℕ} → held ≡ heldAfter (s .held) (step .event)
+        → ((phase : Phase) → Applies (happening (viewOf (frameOf s) phase (s .held) attrs) (step .event)) chars attrs reply at
+        (sessionOf f phase (heldAfter (s .held) (step .event))) chars′ attrs′ reply′ at′)
+        → Applies (hostByte (lent s attrs chars .view) b) chars attrs reply at (sessionOf f (step .phase) held) chars′ attrs′ reply′ at′
+    byte-applies q h = rw (byte-is, q) (h (step .phase))

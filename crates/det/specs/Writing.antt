@@ -10,17 +10,16 @@ use Rattle.rules.specs.declared.Refusal.{Refusal}
 use Rattle.rules.specs.declared.Refusal.the-variants.{Taken, Guarded, WrongClass}
 use Rattle.rules.specs.declared.Key.the-variants.{Typed}
 use Rattle.rules.specs.Session.{View, cursorCell}
-use Rattle.rules.specs.Effect.{Effect, quiet}
-use Rattle.rules.specs.Telnet.{cursorGuarded, nextPlace, hostCharacter}
-use Rattle.rules.specs.Key.{classAllows, pressed}
+use Rattle.rules.specs.Effect.{Effect}
+use Rattle.rules.specs.Telnet.{cursorGuarded, nextPlace}
+use Rattle.rules.specs.Key.{classAllows}
 use Rattle.det.specs.declared.frame.Frame.{Frame}
 use Rattle.det.specs.declared.text.Writer.{Writer}
 use Rattle.det.specs.declared.text.Writer.the-variants.{Host, Operator}
 use Rattle.det.specs.declared.text.Fate.{Fate}
 use Rattle.det.specs.declared.text.Fate.the-variants.{Written, Dropped, RefusedByGuard, RefusedByClass}
 use Rattle.det.specs.declared.text.Writing.{Writing}
-use Rattle.det.specs.Frame.{Fits, bareView}
-use Rattle.det.specs.Decision.{Once, Decides}
+use Rattle.det.specs.Frame.{Fits, bareView, placed}
 
 -- the host's character is dropped on a guarded cell; the operator's is refused there, and where it is not of the cell's class
 unfoldable pub fateOf : Writer → View → ℕ → Fate
@@ -46,10 +45,12 @@ refusalOf Dropped = Taken
 refusalOf RefusedByGuard = Guarded
 refusalOf RefusedByClass = WrongClass
 
--- the rule that a writer goes by
-unfoldable pub writtenBy : Writer → View → ℕ → Effect
-writtenBy Host v c = hostCharacter v c
-writtenBy Operator v c = ifWritten (fateOf Operator v c) (pressed v (Typed c)) (quiet v)
+-- the frame after a character of this fate
+unfoldable pub afterFate : Fate → Frame → Place → Frame
+afterFate Written f next = placed f next
+afterFate Dropped f next = f
+afterFate RefusedByGuard f next = f
+afterFate RefusedByClass f next = f
 
 -- what a writer asks: the operator's cursor goes by the attribute bytes
 abbrev pub Ready : Writer → Frame → List ℕ → Type 0
@@ -58,5 +59,4 @@ Ready Operator f attrs = Fits f attrs
 
 pub record Writes (f : Frame) (attrs : List ℕ) (writer : Writer) (c : ℕ) (w : Writing) : Type 0 where
   pub fate : w .fate ≡ fateOf writer (bareView f attrs) c
-  pub decision : Decides f attrs (w .decision) (λ v. writtenBy writer v c)
-  pub once : Once (w .decision .change)
+  pub frame : w .frame ≡ afterFate (w .fate) f (placeAfter writer (bareView f attrs))

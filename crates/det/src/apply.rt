@@ -7,13 +7,13 @@ ghost use Rattle.det.specs.Frame.{sessionOf, viewOf};
 ghost use Rattle.det.specs.Decision.{changeOf, editsOf, attrsOf, meant};
 ghost use Rattle.det.specs.Reply.{Sayable};
 ghost use Rattle.det.specs.Apply.{Changes, Applies};
+use crate::data::put;
+use crate::data::put_character;
 use crate::decision::Change;
 use crate::decision::Decision;
 use crate::decision::Format;
 use crate::frame::Frame;
 use crate::reply::write_reply;
-use crate::text::Writer;
-use crate::text::write;
 use screen::edit::delete;
 use screen::edit::erase;
 use screen::edit::format;
@@ -30,9 +30,7 @@ fn change_cells(change: Change, chars: &mut [u8], attrs: &[u8])
 {
     match change {
         Change::Nothing => {}
-        Change::Put { cell, byte } => if cell < chars.len() {
-            chars[cell] = byte;
-        },
+        Change::Put { cell, byte } => put(chars, cell, byte),
         Change::Erase {
             suppressed,
             from,
@@ -51,11 +49,7 @@ fn repeat(frame: Frame, count: u8, byte: u8, chars: &mut [u8], attrs: &[u8]) -> 
     let mut now = frame;
     let mut left = count;
     while 0 < left {
-        let writing = write(now, attrs, Writer::Host, byte);
-        let decision = writing.decision;
-        let change = decision.change;
-        change_cells(change, chars, attrs);
-        now = decision.frame;
+        now = put_character(now, byte, chars, attrs);
         left -= 1;
     }
     now

@@ -7,8 +7,10 @@ ghost use Rattle.rules.specs.Refusal.{verdict};
 ghost use Rattle.det.specs.Frame.{Fits, bareView};
 ghost use Rattle.det.specs.Decision.{Decides};
 ghost use Rattle.det.specs.Writing.{refusalOf};
+use crate::decision::Change;
 use crate::decision::Decision;
 use crate::decision::Say;
+use crate::decision::changing;
 use crate::decision::quiet;
 use crate::decision::saying;
 use crate::edit::char_delete;
@@ -101,6 +103,23 @@ pub(crate) fn refuse_pressed(frame: Frame, attrs: &[u8], key: Key) -> Refusal
     }
 }
 
+// A character that is not refused is written at the cursor.
+fn type_in(frame: Frame, attrs: &[u8], byte: u8) -> Decision
+    requires { ⌜ Fits frame (now attrs) ⌝ }
+    requires { ⌜ verdict (keyTests (bareView frame (now attrs)) (Key.Typed byte)) ≡ Refusal.Taken ⌝ }
+    ensures { λ r. ⌜ Decides frame (now (attrs .entry)) r (λ v. pressed v (Key.Typed byte)) ⌝ }
+{
+    let writing = write(frame, attrs, Writer::Operator, byte);
+    let cell = cursor_cell(frame);
+    changing(
+        writing.frame,
+        Change::Put {
+            cell: cell,
+            byte: byte,
+        },
+    )
+}
+
 // 8: the previous cell that is not guarded; none, the cursor stays.
 fn go_back(frame: Frame, attrs: &[u8]) -> Decision
     requires { ⌜ Fits frame (now attrs) ⌝ }
@@ -133,10 +152,7 @@ pub(crate) fn press(frame: Frame, attrs: &[u8], key: Key) -> Decision
     ensures { λ r. ⌜ Decides frame (now (attrs .entry)) r (λ v. pressed v key) ⌝ }
 {
     match key {
-        Key::Typed(byte) => {
-            let writing = write(frame, attrs, Writer::Operator, byte);
-            writing.decision
-        }
+        Key::Typed(byte) => type_in(frame, attrs, byte),
         Key::Back => go_back(frame, attrs),
         Key::Tab => tab(frame, attrs),
         Key::Send => transmit(frame, attrs, Area::Unprotected),

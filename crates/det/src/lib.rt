@@ -3,6 +3,7 @@
 mod apply;
 mod command;
 mod cursor;
+mod data;
 mod decision;
 mod edit;
 mod frame;

@@ -16,7 +16,7 @@ use crate::refuse::refuse;
 use crate::refuse::refuse_sizes;
 use crate::refuse::reply_room;
 use crate::reply::write_reply;
-use crate::take::take_byte;
+use crate::take::take_turn;
 use rules::Answer;
 use rules::Refusal;
 use rules::Session;
@@ -69,21 +69,34 @@ fn take_all(
     requires { ⌜ Accepts session (now attrs) (now chars) (now reply) 0 ⌝ }
     ensures { λ r. ⌜ Settled (hostTaken (lent session (now (attrs .entry)) (now (chars .entry))) (now (reply .entry)) (now (input .entry))) r (now (reply .exit)) (now (attrs .exit)) (now (chars .exit)) ⌝ }
 {
-    let mut now = session;
+    let mut frame = frame_of(session);
+    let mut phase = session.phase;
+    let mut held = session.held;
     let mut taken = 0;
     let mut written = 0;
     while taken < input.len() {
-        if reply.len() - written < reply_room(now) {
+        if reply.len() - written < reply_room(frame.width, frame.height) {
             break;
         }
-        let byte = input[taken];
-        taken += 1;
-        let step = take_byte(now, byte, chars, attrs, reply, written);
-        now = step.session;
-        written = step.written;
+        let turn = take_turn(
+            frame,
+            phase,
+            held,
+            input,
+            taken,
+            chars,
+            attrs,
+            reply,
+            written,
+        );
+        frame = turn.frame;
+        phase = turn.phase;
+        held = turn.held;
+        taken = turn.end;
+        written = turn.written;
     }
     Answer {
-        session: now,
+        session: session_of(frame, phase, held),
         refusal: Refusal::Taken,
         taken: taken,
         written: written,

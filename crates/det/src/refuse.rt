@@ -49,10 +49,10 @@ fn session_ok(session: Session) -> bool
 }
 
 // The worst single reply: 7C + 2.
-pub(crate) fn reply_room(session: Session) -> usize
-    ensures { λ r. ⌜ r ≡ replyRoom session ⌝ }
+pub(crate) fn reply_room(width: u8, height: u8) -> usize
+    ensures { λ r. ⌜ r ≡ replyRoom (fresh width height) ⌝ }
 {
-    7 * (session.height as usize * session.width as usize) + 2
+    7 * (height as usize * width as usize) + 2
 }
 
 // Refusals 1 and 2, all that open has.
@@ -84,7 +84,7 @@ fn refuse_state(session: Session, chars: &[u8], reply: &[u8]) -> Refusal
     if !sound {
         return Refusal::BadSession;
     }
-    if reply.len() < reply_room(session) {
+    if reply.len() < reply_room(session.width, session.height) {
         return Refusal::ReplyRoom;
     }
     Refusal::Taken

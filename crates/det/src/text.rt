@@ -1,18 +1,18 @@
-// Host data: characters are written, CR, LF and BS move the cursor.
+// Characters from the host and from the operator, decided: what happens to each, and where the cursor goes.
 ghost use mathlib.Core.Path.{_≡_};
-ghost use Prim.Native.Nat.{_+_, _-_, _<_};
+ghost use mathlib.Core.Bool.{false};
+ghost use mathlib.Core.List.{List};
+ghost use Prim.Native.Nat.{ℕ, _+_, _-_};
 ghost use lib.Dec.{ltb};
 ghost use Rattle.screen.specs.Words.{if_then_else_};
+ghost use Rattle.telnet.specs.declared.Phase.{Phase};
+ghost use Rattle.rules.specs.declared.Held.{Held};
 ghost use Rattle.rules.specs.Session.{printable};
+ghost use Rattle.rules.specs.Effect.{quiet};
 ghost use Rattle.rules.specs.Telnet.{nextPlace, stepped, hostData};
 ghost use Rattle.rules.specs.Key.{classAllows};
-ghost use Rattle.det.specs.Frame.{OnScreen, Fits, bare, bareView};
-ghost use Rattle.det.specs.Decision.{Decides};
+ghost use Rattle.det.specs.Frame.{viewOf, bare, bareView};
 ghost use Rattle.det.specs.Writing.{fateOf, placeAfter, Ready, Writes};
-use crate::decision::Change;
-use crate::decision::Decision;
-use crate::decision::changing;
-use crate::decision::quiet;
 use crate::frame::Frame;
 use crate::frame::cursor_cell;
 use crate::frame::cursor_guarded;
@@ -41,10 +41,13 @@ fn back(n: u8) -> u8
 
 // One more, none at the last below size.
 fn forth(n: u8, size: u8) -> u8
-    requires { ⌜ n < size ⌝ }
     ensures { λ r. ⌜ r ≡ (if ltb (n + 1) size then n + 1 else n) ⌝ }
 {
-    if n + 1 < size { n + 1 } else { n }
+    if n as usize + 1 < size as usize {
+        n + 1
+    } else {
+        n
+    }
 }
 
 // The next cell's place; at the last cell the cursor's own.
@@ -71,7 +74,6 @@ fn next_place(frame: Frame) -> Place
 
 // One step, none at the edge.
 pub(crate) fn step(frame: Frame, direction: Direction) -> Place
-    requires { ⌜ OnScreen frame ⌝ }
     ensures { λ r. ⌜ r ≡ stepped (bare frame) direction ⌝ }
 {
     let cursor = frame.cursor;
@@ -111,10 +113,10 @@ pub enum Fate {
     RefusedByClass,
 }
 
-// A character's fate, and what is done with it.
+// A character's fate, and the frame after it.
 pub struct Writing {
     pub fate: Fate,
-    pub decision: Decision,
+    pub frame: Frame,
 }
 
 // Class is tested for the operator alone, and not while suppressed.
@@ -175,39 +177,28 @@ pub(crate) fn write(frame: Frame, attrs: &[u8], writer: Writer, byte: u8) -> Wri
     let Fate::Written = fate else {
         return Writing {
             fate: fate,
-            decision: quiet(frame),
+            frame: frame,
         };
     };
     let next = place_after(frame, attrs, writer);
-    let cell = cursor_cell(frame);
     Writing {
         fate: fate,
-        decision: changing(
-            moved(frame, next),
-            Change::Put {
-                cell: cell,
-                byte: byte,
-            },
-        ),
+        frame: moved(frame, next),
     }
 }
 
-pub(crate) fn host_data(frame: Frame, attrs: &[u8], byte: u8) -> Decision
-    requires { ⌜ Fits frame (now attrs) ⌝ }
-    ensures { λ r. ⌜ Decides frame (now (attrs .entry)) r (λ v. hostData v byte) ⌝ }
+// Host data that is no character: CR, LF and BS move the cursor, any other byte does nothing.
+pub(crate) fn effect(frame: Frame, byte: u8) -> Frame
+    requires { ⌜ printable byte ≡ false ⌝ }
+    ensures { λ r. ⌜ ((attrs : List ℕ) (phase : Phase) (held : Held) → hostData (viewOf frame phase held attrs) byte ≡ quiet (viewOf r phase held attrs)) ⌝ }
 {
-    let text = is_printable(byte);
-    if text {
-        let writing = write(frame, attrs, Writer::Host, byte);
-        return writing.decision;
-    }
     match byte {
         13 => {
             let y = frame.cursor.y;
-            quiet(moved(frame, Place { x: Column(0), y: y }))
+            moved(frame, Place { x: Column(0), y: y })
         }
-        10 => quiet(moved(frame, step(frame, Direction::Down))),
-        8 => quiet(moved(frame, step(frame, Direction::Left))),
-        _ => quiet(frame),
+        10 => moved(frame, step(frame, Direction::Down)),
+        8 => moved(frame, step(frame, Direction::Left)),
+        _ => frame,
     }
 }

@@ -23,7 +23,7 @@ use Rattle.rules.proofs.Sound.{Sound, sound-byte, Accepted, sound-of}
 -- ---- one reply
 
 module _ {m n : ℕ} {s : State} (k : Sound m n s) where
-  room-is : replyRoom (s .view .session) ≡ replyRoom (fresh m n)
+  pub room-is : replyRoom (s .view .session) ≡ replyRoom (fresh m n)
   room-is = rw (k .view .sizes .width, k .view .sizes .height)
 
   -- of a host byte

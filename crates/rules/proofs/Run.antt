@@ -1,13 +1,13 @@
 -- Host bytes one after the other: a run of two inputs, calls that take all they are offered, and a loop over the input.
 use mathlib.Core.Path.{_≡_, refl, ap, _∙_}
-use mathlib.Core.List.{List, [], _∷_, _++_, append-assoc}
+use mathlib.Core.List.{List, [], _∷_, _++_, append-assoc, append-nil}
 use Prim.Native.Nat.{ℕ, suc, _+_, _-_, _≤_, _<_}
 use native.Mathlib.Numerals.{add-one}
 use native.Mathlib.Omega.{arith}
 use borrow.Author.Tests.{leb-true, le-leb, lt-leb}
 use lib.Dec.{leb}
-use lib.ListN.{length, getD, take, drop, drop-of-length-le}
-use lib.Seq.{drop-cons, take-length, take-append-seam}
+use lib.ListN.{length, length-append, getD, take, drop, drop-of-length-le}
+use lib.Seq.{take-suc, drop-cons, take-length, take-append-seam}
 use Rattle.screen.proofs.WordLaws.{either}
 use Rattle.rules.specs.declared.Refusal.the-variants.{Taken}
 use Rattle.rules.specs.Session.{replyRoom}
@@ -16,7 +16,7 @@ use Rattle.rules.specs.Operation.{State, Ran, running, answering, unless
 use Rattle.rules.specs.Call.{host, left, executedBy}
 use Rattle.rules.proofs.Calls.{byteRan, repliesIn}
 use Rattle.rules.proofs.Sound.{Sound, sound-byte, sound-of, passes}
-use Rattle.rules.proofs.Room.{room-byte}
+use Rattle.rules.proofs.Room.{room-is, room-byte}
 
 -- a run, and another from where it ended
 abbrev pub followed : Ran → Ran → Ran
@@ -63,6 +63,18 @@ all-taken {s = s} k a b c (x ∷ xs) ys e d h =
     let r = room-byte k x in
     one-taken s c x (xs ++ ys) (omega arith)
     ∙ ap suc (all-taken (sound-byte k x) (a - length ((byteRan s x) .replies)) b _ xs ys (f .1) d (omega arith))
+
+-- bytes that draw no reply are all taken, where there is room for one
+pub silent-taken : {m n : ℕ} {s : State} → Sound m n s → (free : ℕ) (xs ys : List ℕ) → replyRoom (s .view .session) ≤ free
+    → length ((running s xs) .replies) ≡ 0 → takenOf s free (xs ++ ys) ≡ length xs + takenOf ((running s xs) .state) free ys
+unfolding running
+silent-taken k free [] ys r e = omega arith
+silent-taken {s = s} k free (x ∷ xs) ys r e =
+    let one = byteRan s x in
+    let both = length-append (one .replies) ((running (one .state) xs) .replies) in
+    let same : free - length (one .replies) ≡ free = omega arith in
+    let rest = silent-taken (sound-byte k x) free xs ys (rw (room-is (sound-byte k x), ← room-is k) r) (omega arith) in
+    one-taken s free x (xs ++ ys) r ∙ rw same (omega (arith, rest))
 
 -- ---- two calls, or one
 
@@ -127,6 +139,13 @@ module _ (s : State) (free : ℕ) (input : List ℕ) (i : ℕ) (h : i < length i
       ranOf s free (drop i input) ≡ followed one (ranOf (one .state) (free - length (one .replies)) (drop (i + 1) input))
   unfolding running
   ran-step = rw (taken-step, add-one, drop-cons input i 0)
+
+-- one byte more
+pub running-next : (s : State) (input : List ℕ) (i : ℕ) → i < length input →
+    let r = running s (take i input) in
+    running s (take (i + 1) input) ≡ followed r (byteRan (r .state) (getD input i 0))
+unfolding running
+running-next s input i h = rw (add-one, take-suc input i 0, running-append) (simp append-nil)
 
 -- with no input left nothing more is taken
 pub taken-end : (s : State) (free : ℕ) (input : List ℕ) (i : ℕ) → length input ≤ i → takenOf s free (drop i input) ≡ 0

@@ -1,12 +1,12 @@
 -- What lists of bytes tell: in two parts, one byte at a time, and as a sender writes them.
-use Prim.Native.Nat.{ℕ, suc, _+_, _<_}
+use Prim.Native.Nat.{ℕ, suc, _+_, _≤_, _<_}
 use native.Mathlib.Numerals.{add-one}
 use native.Mathlib.Omega.{arith}
 use mathlib.Core.Path.{_≡_, refl, _∙_}
 use mathlib.Core.Bool.{Bool, true, false}
 use mathlib.Core.List.{List, [], _∷_, _++_, map, append-assoc, append-nil}
 use lib.Dec.{eqb}
-use lib.ListN.{length, drop, getD}
+use lib.ListN.{length, drop, getD, length-append}
 use lib.Seq.{drop-cons}
 use borrow.Author.Tests.{eqb-true, ne-eqb}
 use Rattle.telnet.specs.If.{if_then_else_}
@@ -15,7 +15,7 @@ use Rattle.telnet.specs.declared.Verb.the-variants.{Will, Wont, Do, Dont
 use Rattle.telnet.specs.declared.Phase.{Phase}
 use Rattle.telnet.specs.declared.Phase.the-variants.{Rest, Iac, Opening, OpeningIac, Inside, InsideIac}
 use Rattle.telnet.specs.declared.Event.{Event}
-use Rattle.telnet.specs.declared.Event.the-variants.{Nothing, Data, Negotiation, Begin, Sub, End, Lost}
+use Rattle.telnet.specs.declared.Event.the-variants.{Nothing, Data, Negotiation, Begin, Sub, End, EndBare, Lost}
 use Rattle.telnet.specs.declared.Step.{Step}
 use Rattle.telnet.specs.Reader.{iac, sb, se, tells, silent, afterIac, thrownAway, readOf, reader}
 use Rattle.telnet.specs.Stream.{phaseAfter, told, eventsOf}
@@ -32,6 +32,22 @@ pub events-append : (p : Phase) (xs ys : List ℕ) → eventsOf p (xs ++ ys) ≡
 unfolding phaseAfter eventsOf
 events-append p [] ys = refl
 events-append p (x ∷ xs) ys = rw (events-append (readOf p x .phase) xs ys, append-assoc)
+
+-- A byte tells at most one event, so a list tells no more events than it has bytes.
+told-few : (e : Event) → length (told e) ≤ 1
+told-few Nothing = omega arith
+told-few (Data b) = omega arith
+told-few (Negotiation v o) = omega arith
+told-few (Begin o) = omega arith
+told-few (Sub o b) = omega arith
+told-few (End o) = omega arith
+told-few EndBare = omega arith
+told-few Lost = omega arith
+
+pub events-few : (p : Phase) (bs : List ℕ) → length (eventsOf p bs) ≤ length bs
+unfolding eventsOf
+events-few p [] = omega arith
+events-few p (b ∷ bs) = simp length-append (omega (arith, told-few (readOf p b .event), events-few (readOf p b .phase) bs))
 
 -- For a loop over a slice: the bytes from i on are the byte at i, then those from i + 1 on.
 module _ (p : Phase) (s : List ℕ) (i : ℕ) (within : i < length s) where
@@ -91,6 +107,11 @@ pub data-read : (bs : List ℕ) → Reads Rest (doubled bs) (map Data bs) Rest
 unfolding reader
 data-read = doubled-read (written-read Iac (λ b. Rest) Data (λ b. refl) refl)
 
+-- And so is a payload, in its subnegotiation.
+pub payload-read : (o : ℕ) (bs : List ℕ) → Reads (Inside o) (doubled bs) (map (Sub o) bs) (Inside o)
+unfolding reader
+payload-read o = doubled-read (written-read (InsideIac o) (λ b. Inside o) (Sub o) (λ b. refl) refl)
+
 -- no byte is 255
 abbrev pub No255 : List ℕ → Type 0
 No255 bs = (k : ℕ) → k < length bs → getD bs k 0 ≡ 255 → ⊥
@@ -106,14 +127,17 @@ plain-doubled (b ∷ bs) none =
 pub plain-read : (bs : List ℕ) → No255 bs → Reads Rest bs (map Data bs) Rest
 plain-read bs none = rw (plain-doubled bs none) at (data-read bs)
 
+-- And so is a payload without 255.
+pub plain-payload-read : (o : ℕ) (bs : List ℕ) → No255 bs → Reads (Inside o) bs (map (Sub o) bs) (Inside o)
+plain-payload-read o bs none = rw (plain-doubled bs none) at (payload-read o bs)
+
 -- A subnegotiation is read as its option, each byte of its payload, and its end.
 pub sub-read : (o : ℕ) (bs : List ℕ) → Reads Rest (subnegotiation o bs) (Begin o ∷ (map (Sub o) bs ++ (End o ∷ []))) Rest
 unfolding reader subnegotiation doubled phaseAfter eventsOf
 sub-read o bs =
     joined (computed {p = Rest} {bytes = iac ∷ sb ∷ []})
     (joined
-    (joined (written-read OpeningIac Inside Begin (λ b. refl) refl o)
-    (doubled-read (written-read (InsideIac o) (λ b. Inside o) (Sub o) (λ b. refl) refl) bs))
+    (joined (written-read OpeningIac Inside Begin (λ b. refl) refl o) (payload-read o bs))
     (computed {p = Inside o} {bytes = iac ∷ se ∷ []}))
 
 -- A negotiation command is read as its verb and option, whatever the option.

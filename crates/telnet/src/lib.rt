@@ -4,6 +4,8 @@
 ghost use mathlib.Core.Path.{_≡_};
 ghost use Rattle.telnet.specs.Reader.{afterIac, thrownAway, opening, openingIac, inside, insideIac, readOf};
 
+pub mod run;
+
 // The four commands that take an option byte.
 pub enum Verb {
     Will,

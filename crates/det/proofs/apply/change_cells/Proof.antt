@@ -1,6 +1,4 @@
--- `change_cells` meets its contract: one case for each change. A store past the end is none.
-use lib.Seq.{set-out}
-use mathlib.Core.Path.{sym}
+-- `change_cells` meets its contract: one case for each change.
 use borrow.Author.Needs.{needs}
 use Rattle.rules.specs.Effect.{changed, changedAll}
 use Rattle.det.proofs.apply.change_cells.Statement.{statement}
@@ -23,8 +21,7 @@ change-cells-spec =
     (λ c. search needs)
     (λ c. rw (c .enum-told .given .1))
     (λ c. search needs)
-    (λ c. rw (c .before .before .change .given .1))
-    (λ c. rw (c .before .before .change .given .1) (sym (set-out _ _ _ (c .if1 .left))))
+    (λ c. let p = c .before .before in rw (p .before .before .before .change .given .1) (p .put .ensures))
     (λ c. search needs)
     (λ c. let p = c .before .before in rw (p .before .before .before .change2 .given .1) (p .erase .ensures))
     (λ c. search needs)

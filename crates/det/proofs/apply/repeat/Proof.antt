@@ -14,11 +14,10 @@ repeat-spec =
     (λ count byte chars₀ attrs now₀ left₀ chars now left. left)
     (λ c. (refl, repeating-start))
     (λ c κs. search needs)
-    (λ c κs. search needs)
     (λ c. search needs)
     (λ c. search needs)
-    (λ c. let w = c .before .before .before .before .before .before in
-    let d = c .before .before .before .change-cells .ensures in
-    (search needs, repeating-more (w .before .before .loop .inv .1) (w .before .loop-test .taken) (w .write .ensures) d))
+    (λ c. let p = c .before .before in
+    let l = p .before .before in
+    (search needs, repeating-more (l .before .loop .inv .1) (l .loop-test .taken) (p .put-character .ensures)))
     (λ c. search needs)
     (λ c. repeating-end (c .before .loop .inv .1) (c .loop-test .left)))

@@ -3,7 +3,6 @@ use mathlib.Core.Path.{refl}
 use borrow.Author.Needs.{needs}
 use Rattle.rules.specs.Key.{pressed}
 use Rattle.det.proofs.DecideLaws.{decides}
-use Rattle.det.proofs.WriteLaws.{typed}
 use Rattle.det.proofs.keys.press.Statement.{statement}
 use Rattle.det.proofs.keys.press.Tie as tie
 
@@ -13,7 +12,8 @@ press-spec =
     tie.close
     (tie.spec
     (λ c. search needs)
-    (λ c κs. search needs)
+    (λ c κs. let k = c .before in
+    (k .before .before .before .pre .0, rw (k .key .given .1) at (k .before .before .before .pre .1)))
     (λ c. search needs)
     (λ c κs. search needs)
     (λ c. search needs)
@@ -26,7 +26,7 @@ press-spec =
     (λ c κs. search needs)
     (λ c. search needs)
     (λ c κs. search needs)
-    (λ c. let b = c .before .before .before in typed (b .key .given .1) (b .before .before .before .pre .1) (c .before .write .ensures .decision))
+    (λ c. rw (c .before .before .key .given .1) (c .type-in .ensures))
     (λ c. rw (c .before .enum-told .given .1) (c .go-back .ensures))
     (λ c. rw (c .before .enum-told2 .given .1) (c .tab .ensures))
     (λ c. rw (c .before .enum-told3 .given .1) (c .transmit .ensures))

@@ -1,6 +1,8 @@
--- `take_byte` meets its contract: the byte is read, what it told is decided, and the decision applied.
+-- `take_byte` meets its contract: the byte is read, and what it told is done.
+use native.Mathlib.Omega.{arith}
 use borrow.Author.Needs.{needs}
-use Rattle.det.proofs.TakeLaws.{accepts-fits, byte-sayable, byte-applies}
+use Rattle.det.proofs.TakeLaws.{byte-answerable, byte-applies}
+use Rattle.det.proofs.HostLaws.{taking-byte}
 use Rattle.det.proofs.take.take_byte.Statement.{statement}
 use Rattle.det.proofs.take.take_byte.Tie as tie
 
@@ -8,19 +10,18 @@ pub take-byte-spec : {M : Type 1} → statement M
 take-byte-spec =
     tie.close
     (tie.spec
+    (λ c. search needs)
     (λ c κs. search needs)
+    (λ c κs. let r = c .before .before .before in byte-answerable (r .before .before .before .before .before .before .pre .0) _ (r .read .ensures))
     (λ c κs. search needs)
-    (λ c κs. rw (c .before .frame-of .ensures) (accepts-fits (c .before .before .before .before .before .before .before .pre)))
-    (λ c κs. let d = c .before .before .before in
-    let f = d .before .before in
-    byte-sayable (f .before .before .before .before .before .before .pre) _ (f .before .before .read .ensures) (rw (f .frame-of .ensures) at (d .decide .ensures)))
-    (λ c κs. search needs)
-    (λ c κs. search needs)
+    (λ c. let start = c .before .before .before .before .before .before .before .before .before .before .before .before .before .before .before .before .before .before in omega (arith, start .pre .1, start .good .1 .1 .1 .0 .0))
     (λ c. search needs)
     (λ c. search needs)
     (λ c. search needs)
-    (λ c. let a = c .before .before .before .before .before .before .before .before .before in
-    let d = a .before .before .before .before in
-    let f = d .before .before in
-    byte-applies (f .before .before .before .before .before .before .pre) _ (f .before .before .read .ensures) (rw (f .frame-of .ensures) at (d .decide .ensures))
-    (c .before .held-after .ensures) (c .session-of .ensures) (a .apply .ensures)))
+    (λ c. let h = c .before .before .before .before .before .before .before .before in
+    let r = h .before .before .before .before in
+    let p = r .before .before .before .before .before .before .pre in
+    record {
+      taking = taking-byte (p .0) (p .1) (byte-applies (p .0) _ (r .read .ensures) (c .held-after .ensures) (h .happen .ensures));
+      further = omega arith;
+    }))

@@ -1,36 +1,20 @@
 -- `write` meets its contract: by whether the character is written.
+use mathlib.Core.Path.{_∙_}
 use borrow.Author.Needs.{needs}
-use Rattle.det.specs.Writing.{ifWritten}
-use Rattle.det.proofs.DecideLaws.{decides}
-use Rattle.det.proofs.WriteLaws.{by-fate, fate-bare, place-bare, not-written}
+use Rattle.det.specs.Writing.{afterFate}
+use Rattle.det.proofs.WriteLaws.{not-moved}
 use Rattle.det.proofs.text.write.Statement.{statement}
 use Rattle.det.proofs.text.write.Tie as tie
 
 pub write-spec : {M : Type 1} → statement M
-unfolding ifWritten
+unfolding afterFate
 write-spec =
     tie.close
     (tie.spec
     (λ c κs. search needs)
     (λ c. search needs)
-    (λ c κs. search needs)
-    (λ c. let j = c .before .before .judge-character in
-    record {
-      fate = j .ensures;
-      decision = decides (c .quiet .ensures) tt (λ phase held. rw (by-fate, fate-bare, ← j .ensures, not-written _ (c .before .match .keys2)));
-      once = λ v. rw (c .quiet .ensures);
-    })
+    (λ c. record { fate = c .before .judge-character .ensures; frame = not-moved (c .before .judge-character .result) (c .match .keys2) (c .before .before .before .args .frame) _ })
     (λ c κs. search needs)
     (λ c κs. search needs)
-    (λ c κs. search needs)
-    (λ c κs. search needs)
-    (λ c. let b = c .before .before .before in
-    let j = b .before .before .before .judge-character in
-    record {
-      fate = j .ensures;
-      decision =
-          decides (c .changing .ensures) tt (λ phase held.
-          rw (by-fate, fate-bare, ← j .ensures, b .before .enum-told .given .1, place-bare)
-          (rw (← b .place-after .ensures, ← c .before .before .cursor-cell .ensures, c .before .moved .ensures)));
-      once = λ v. rw (c .changing .ensures);
-    }))
+    (λ c. let w = c .before .before in
+    record { fate = w .before .before .judge-character .ensures; frame = c .moved .ensures ∙ rw (w .enum-told .given .1, c .before .place-after .ensures) }))

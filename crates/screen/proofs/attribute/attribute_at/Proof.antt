@@ -7,14 +7,10 @@ use Rattle.screen.proofs.WordLaws.{getD-within}
 use Rattle.screen.proofs.attribute.attribute_at.Statement.{statement}
 use Rattle.screen.proofs.attribute.attribute_at.Tie as tie
 
-shared-slice-read-result : tie.Need-shared-slice-read-result
-shared-slice-read-result c = search needs
-
-returns : tie.Need-returns
-returns c = let a = c .before .before .args in getD-within (a .attrs .now) (a .cell) 0 8 (omega arith)
-
-returns-2 : tie.Need-returns-2
-returns-2 c = let a = c .before .args in sym (List·getD-eq-default (a .attrs .now) 8 {n = a .cell} (omega arith))
-
 pub attribute-at-spec : {M : Type 1} → statement M
-attribute-at-spec = tie.close (tie.spec shared-slice-read-result returns returns-2)
+attribute-at-spec =
+    tie.close
+    (tie.spec
+    (λ c. search needs)
+    (λ c. let a = c .before .before .args in getD-within (a .attrs .now) (a .cell) 0 8 (omega arith))
+    (λ c. let a = c .before .args in sym (List·getD-eq-default (a .attrs .now) 8 {n = a .cell} (omega arith))))

@@ -5,17 +5,11 @@ use Rattle.screen.proofs.CellLaws.{byte-product}
 use Rattle.screen.proofs.cell.line_start.Statement.{statement}
 use Rattle.screen.proofs.cell.line_start.Tie as tie
 
-wide-requires : tie.Need-wide-requires
-wide-requires c κs = search needs
-
-wide-requires-2 : tie.Need-wide-requires-2
-wide-requires-2 c κs = search needs
-
-mul-result : tie.Need-mul-result
-mul-result c = omega (arith, byte-product {a = c .before .wide .result} {b = c .wide2 .result} (omega arith) (omega arith))
-
-returns : tie.Need-returns
-returns c = rw (c .before .wide .ensures, c .wide2 .ensures)
-
 pub line-start-spec : {M : Type 1} → statement M
-line-start-spec = tie.close (tie.spec wide-requires wide-requires-2 mul-result returns)
+line-start-spec =
+    tie.close
+    (tie.spec
+    (λ c κs. search needs)
+    (λ c κs. search needs)
+    (λ c. omega (arith, byte-product {a = c .before .wide .result} {b = c .wide2 .result} (omega arith) (omega arith)))
+    (λ c. rw (c .before .wide .ensures, c .wide2 .ensures)))

@@ -6,12 +6,10 @@ use Rattle.screen.proofs.WordLaws.{getD-tabulate}
 use Rattle.screen.proofs.class.class.Statement.{statement}
 use Rattle.screen.proofs.class.class.Tie as tie
 
-array-read-result : tie.Need-array-read-result
-array-read-result c = search needs
-
-returns : tie.Need-returns
-unfolding tabulate classOf
-returns c = getD-tabulate classOf 256 (c .args .byte) 0 (search needs)
-
 pub class-spec : {M : Type 1} → statement M
-class-spec = tie.close (tie.spec array-read-result returns)
+unfolding tabulate classOf
+class-spec =
+    tie.close
+    (tie.spec
+    (λ c. search needs)
+    (λ c. getD-tabulate classOf 256 (c .args .byte) 0 (search needs)))

@@ -21,26 +21,14 @@ bits b = go (alphabetic b) (numeric b)
     go false true = (refl, refl)
     go false false = (refl, refl)
 
-class-requires : tie.Need-class-requires
-class-requires c κs = search needs
-
-protection-requires : tie.Need-protection-requires
-protection-requires c κs = search needs
-
-returns : tie.Need-returns
-unfolding takes
-returns c = rw (c .before .before .class .ensures, ← c .before .protection .ensures, c .match .keys1) (bits _ .0)
-
-returns-2 : tie.Need-returns-2
-unfolding takes
-returns-2 c = rw (c .before .before .class .ensures, ← c .before .protection .ensures, c .match .keys2) (bits _ .1)
-
-returns-3 : tie.Need-returns-3
-unfolding takes
-returns-3 c =
-    let r = c .match .rest in
-    rw (← c .before .protection .ensures) (simp (ne-eqb _ _ (r .0 .1), ne-eqb _ _ (r .1)))
-
 pub takes-typed-spec : {M : Type 1} → statement M
+unfolding takes
 takes-typed-spec =
-    tie.close (tie.spec class-requires protection-requires returns returns-2 returns-3)
+    tie.close
+    (tie.spec
+    (λ c κs. search needs)
+    (λ c κs. search needs)
+    (λ c. rw (c .before .before .class .ensures, ← c .before .protection .ensures, c .match .keys1) (bits _ .0))
+    (λ c. rw (c .before .before .class .ensures, ← c .before .protection .ensures, c .match .keys2) (bits _ .1))
+    (λ c. let r = c .match .rest in
+    rw (← c .before .protection .ensures) (simp (ne-eqb _ _ (r .0 .1), ne-eqb _ _ (r .1)))))

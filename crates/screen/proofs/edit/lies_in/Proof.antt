@@ -3,11 +3,9 @@ use borrow.Author.Tests.{le-leb, lt-leb}
 use Rattle.screen.proofs.edit.lies_in.Statement.{statement}
 use Rattle.screen.proofs.edit.lies_in.Tie as tie
 
-returns : tie.Need-returns
-returns c = rw (le-leb _ _ (c .if1 .taken))
-
-returns-2 : tie.Need-returns-2
-returns-2 c = rw (lt-leb _ _ (c .if1 .left))
-
 pub lies-in-spec : {M : Type 1} → statement M
-lies-in-spec = tie.close (tie.spec returns returns-2)
+lies-in-spec =
+    tie.close
+    (tie.spec
+    (λ c. rw (le-leb _ _ (c .if1 .taken)))
+    (λ c. rw (lt-leb _ _ (c .if1 .left))))

@@ -65,135 +65,57 @@ module _ {suppressed : Bool} {attrs : List ℕ} {width height : ℕ} {p : Place}
           sym (s .answer ∙ rw (← here, first-hit (isOpen suppressed attrs) (cellOf width p) cell (length attrs) on (rw (← is) n), here)
           (place-of-cell width x y hx))
 
-abbrev Inv-loop : tie.InvT-loop
-Inv-loop attrs width height suppressed inside x₀ y open₀ x «open» = («open» ≡ open₀) × Seeking suppressed attrs width height «open» x y
-
-abbrev μ-loop : tie.MeasureT-loop
-μ-loop attrs width height suppressed inside x₀ y open₀ x «open» = width - x
-
-abbrev Inv-scan : tie.InvT-scan
-Inv-scan attrs width height suppressed inside x₀ y₀ open₀ x y «open» =
-    (y ≤ height) × («open» ≡ open₀) × Seeking suppressed attrs width height «open» x y
-
-abbrev μ-scan : tie.MeasureT-scan
-μ-scan attrs width height suppressed inside x₀ y₀ open₀ x y «open» = height - y
-
-on-screen-requires : tie.Need-on-screen-requires Inv-loop μ-loop Inv-scan μ-scan
-on-screen-requires c κs = search needs
-
-returns : tie.Need-returns Inv-loop μ-loop Inv-scan μ-scan
+pub next-open-spec : {M : Type 1} → statement M
 unfolding nextOpenPlace
-returns c = rw (sym (c .before .on-screen .ensures) ∙ not-true _ (c .if1 .taken))
-
-wide-requires : tie.Need-wide-requires Inv-loop μ-loop Inv-scan μ-scan
-wide-requires c κs = search needs
-
-wide-requires-2 : tie.Need-wide-requires-2 Inv-loop μ-loop Inv-scan μ-scan
-wide-requires-2 c κs = search needs
-
-mul-if2 : tie.Need-mul-if2 Inv-loop μ-loop Inv-scan μ-scan
-mul-if2 c = omega (arith, byte-product {a = c .before .wide .result} {b = c .wide2 .result} (omega arith) (omega arith))
-
-returns-2 : tie.Need-returns-2 Inv-loop μ-loop Inv-scan μ-scan
-unfolding nextOpenPlace
-returns-2 c =
-    let w = c .before in
+next-open-spec =
+    tie.close
+    (tie.spec
+    (λ attrs width height suppressed inside x₀ y open₀ x «open». («open» ≡ open₀) × Seeking suppressed attrs width height «open» x y)
+    (λ attrs width height suppressed inside x₀ y open₀ x «open». width - x)
+    (λ attrs width height suppressed inside x₀ y₀ open₀ x y «open». (y ≤ height) × («open» ≡ open₀) × Seeking suppressed attrs width height «open» x y)
+    (λ attrs width height suppressed inside x₀ y₀ open₀ x y «open». height - y)
+    (λ c κs. search needs)
+    (λ c. rw (sym (c .before .on-screen .ensures) ∙ not-true _ (c .if1 .taken)))
+    (λ c κs. search needs)
+    (λ c κs. search needs)
+    (λ c. omega (arith, byte-product {a = c .before .wide .result} {b = c .wide2 .result} (omega arith) (omega arith)))
+    (λ c. let w = c .before in
     let o = w .before .before in
     rw (
       sym (o .before .on-screen .ensures) ∙ not-false _ (o .if1 .left),
       ← w .before .wide .ensures,
       ← w .wide2 .ensures,
       ne-eqb _ _ (c .if2 .taken),
-    )
-
-add-x : tie.Need-add-x Inv-loop μ-loop Inv-scan μ-scan
-add-x c =
-    let o = c .before .before .before .before in
+    ))
+    (λ c. let o = c .before .before .before .before in
     let a = o .before .before .before .args in
-    omega (arith, on-screen (a .width) (a .height) (a .place) (sym (o .before .on-screen .ensures) ∙ not-false _ (o .if1 .left)))
-
-scan-holds : tie.Need-scan-holds Inv-loop μ-loop Inv-scan μ-scan
-scan-holds c =
-    let w = c .before .before in
+    omega (arith, on-screen (a .width) (a .height) (a .place) (sym (o .before .on-screen .ensures) ∙ not-false _ (o .if1 .left))))
+    (λ c. let w = c .before .before in
     let o = w .before .before in
     let a = o .before .before .before .args in
     let e = sym (o .before .on-screen .ensures) ∙ not-false _ (o .if1 .left) in (
       omega (arith, on-screen (a .width) (a .height) (a .place) e),
       refl,
       begins e (c .before .if2 .left ∙ rw (w .before .wide .ensures, w .wide2 .ensures)),
-    )
-
-loop-holds : tie.Need-loop-holds Inv-loop μ-loop Inv-scan μ-scan
-loop-holds c = (refl, c .before .scan .inv .2)
-
-cell-of-requires : tie.Need-cell-of-requires Inv-loop μ-loop Inv-scan μ-scan
-cell-of-requires c κs = search needs
-
-is-guarded-requires : tie.Need-is-guarded-requires Inv-loop μ-loop Inv-scan μ-scan
-is-guarded-requires c κs = search needs
-
-add-x-2 : tie.Need-add-x-2 Inv-loop μ-loop Inv-scan μ-scan
-add-x-2 c = omega arith
-
-loop-less : tie.Need-loop-less Inv-loop μ-loop Inv-scan μ-scan
-loop-less c = omega arith
-
-loop-again : tie.Need-loop-again Inv-loop μ-loop Inv-scan μ-scan
-loop-again c =
-    let l = c .before .before .before .before in (
+    ))
+    (λ c. (refl, c .before .scan .inv .2))
+    (λ c κs. search needs)
+    (λ c κs. search needs)
+    (λ c. omega arith)
+    (λ c. omega arith)
+    (λ c. let l = c .before .before .before .before in (
       l .loop .inv .0,
       skips (l .loop .inv .1) (c .before .before .before .loop-test .taken) (l .before .scan-test .taken)
           (c .before .before .cell-of .ensures) (c .before .is-guarded .ensures) (c .if3 .left),
-    )
-
-add-y : tie.Need-add-y Inv-loop μ-loop Inv-scan μ-scan
-add-y c = omega arith
-
-scan-less : tie.Need-scan-less Inv-loop μ-loop Inv-scan μ-scan
-scan-less c = omega arith
-
-scan-again : tie.Need-scan-again Inv-loop μ-loop Inv-scan μ-scan
-scan-again c =
-    let l = c .before in
-    (omega arith, l .loop .inv .0 ∙ l .before .before .scan .inv .1, turns (l .loop .inv .1) (omega arith))
-
-returns-3 : tie.Need-returns-3 Inv-loop μ-loop Inv-scan μ-scan
-returns-3 c =
-    let i = c .before .scan .inv in
-    rw (← i .1) (ends (i .2) (c .scan-test .left))
-
-returns-4 : tie.Need-returns-4 Inv-loop μ-loop Inv-scan μ-scan
-returns-4 c =
-    let l = c .before .before .before .before in
+    ))
+    (λ c. omega arith)
+    (λ c. omega arith)
+    (λ c. let l = c .before in
+    (omega arith, l .loop .inv .0 ∙ l .before .before .scan .inv .1, turns (l .loop .inv .1) (omega arith)))
+    (λ c. let i = c .before .scan .inv in
+    rw (← i .1) (ends (i .2) (c .scan-test .left)))
+    (λ c. let l = c .before .before .before .before in
     let i = l .loop .inv in
     rw (← i .0 ∙ l .before .before .scan .inv .1)
     (hits (i .1) (c .before .before .before .loop-test .taken) (l .before .scan-test .taken)
-    (c .before .before .cell-of .ensures) (c .before .is-guarded .ensures) (c .if3 .taken))
-
-pub next-open-spec : {M : Type 1} → statement M
-next-open-spec =
-    tie.close
-    (tie.spec
-    Inv-loop
-    μ-loop
-    Inv-scan
-    μ-scan
-    on-screen-requires
-    returns
-    wide-requires
-    wide-requires-2
-    mul-if2
-    returns-2
-    add-x
-    scan-holds
-    loop-holds
-    cell-of-requires
-    is-guarded-requires
-    add-x-2
-    loop-less
-    loop-again
-    add-y
-    scan-less
-    scan-again
-    returns-3
-    returns-4)
+    (c .before .before .cell-of .ensures) (c .before .is-guarded .ensures) (c .if3 .taken))))

@@ -1,0 +1,59 @@
+//! The terminal under measure, by `host`'s wrapper, with the buffers that it
+//! is lent.
+
+use host::terminal::{self, at, Counts, Session};
+
+use crate::size::Size;
+use crate::streams::DO_DET;
+
+#[derive(Clone)]
+pub struct Ours {
+    pub session: Session,
+    pub chars: Vec<u8>,
+    pub attrs: Vec<u8>,
+    pub reply: Vec<u8>,
+}
+
+impl Ours {
+    /// A new screen, with option 20 on.
+    pub fn open(size: Size) -> Ours {
+        let (mut chars, mut attrs) = (vec![0; size.cells()], vec![0; size.cells()]);
+        let session = terminal::open(size.columns, size.lines, &mut chars, &mut attrs);
+        let mut ours = Ours {
+            session: session.expect("the size is one"),
+            chars,
+            attrs,
+            reply: vec![0; size.room()],
+        };
+        ours.take(&DO_DET);
+        ours
+    }
+
+    /// Takes bytes that draw at most one reply.
+    pub fn take(&mut self, input: &[u8]) {
+        let Ours {
+            session,
+            chars,
+            attrs,
+            reply,
+        } = self;
+        let counts = session.host_bytes(input, chars, attrs, reply);
+        let taken = counts.expect("the screen is one").taken;
+        assert_eq!(taken, input.len(), "host bytes were left");
+    }
+
+    /// None where the key is refused.
+    pub fn key(&mut self, key: u32) -> Option<Counts> {
+        let (chars, attrs, reply) = (&mut self.chars, &self.attrs, &mut self.reply);
+        self.session.key(key, chars, attrs, reply).ok()
+    }
+
+    /// Puts the cursor on a cell.
+    pub fn go(&mut self, cell: usize) {
+        let mut bytes = *self.session.as_bytes();
+        let columns = usize::from(bytes[at::WIDTH]);
+        bytes[at::X] = (cell % columns) as u8;
+        bytes[at::Y] = (cell / columns) as u8;
+        self.session = Session::from_bytes(bytes).expect("only its cursor was changed");
+    }
+}

@@ -1,0 +1,44 @@
+//! The oracle's core in Rust, with the buffers that it is lent.
+
+use oracle::terminal::{Lent, Terminal};
+use oracle::variant::Variant;
+use oracle::watch::Unwatched;
+
+use crate::size::Size;
+use crate::streams::DO_DET;
+
+pub struct RustCore {
+    terminal: Terminal,
+    pub chars: Vec<u8>,
+    pub attrs: Vec<u8>,
+    reply: Vec<u8>,
+}
+
+impl RustCore {
+    /// A new screen, with option 20 on.
+    pub fn open(size: Size) -> RustCore {
+        let mut core = RustCore {
+            terminal: Terminal::new(Variant::None),
+            chars: vec![0; size.cells()],
+            attrs: vec![0; size.cells()],
+            reply: vec![0; size.room()],
+        };
+        let (columns, lines) = (size.columns as u16, size.lines as u16);
+        let (chars, attrs) = (&mut core.chars, &mut core.attrs);
+        let outcome = core.terminal.open(columns, lines, chars, attrs);
+        assert_eq!(outcome.refusal, None, "the size is one");
+        core.take(&DO_DET);
+        core
+    }
+
+    /// Takes bytes that draw at most one reply.
+    pub fn take(&mut self, input: &[u8]) {
+        let lent = Lent {
+            chars: &mut self.chars,
+            attrs: &mut self.attrs,
+            reply: &mut self.reply,
+        };
+        let outcome = self.terminal.host(lent, input, &mut Unwatched);
+        assert_eq!(outcome.taken, input.len(), "host bytes were left");
+    }
+}

@@ -1,0 +1,90 @@
+//! The screens on which keys are pressed.
+
+use crate::ours::Ours;
+use crate::size::Size;
+use crate::streams;
+
+const OPEN: u8 = 0x00;
+const PROTECTED: u8 = 0x08;
+const ANOTHER_OPEN: u8 = 0x02;
+
+pub struct Screen {
+    pub name: &'static str,
+    pub make: fn(Size) -> Ours,
+}
+
+pub const FORM: Screen = Screen {
+    name: "a form",
+    make: form,
+};
+
+/// On these the scans and the replies are long.
+pub const HARD: [Screen; 5] = [
+    Screen {
+        name: "one open field, cursor at its start",
+        make: one_field,
+    },
+    Screen {
+        name: "first and last cell open, cursor on the first",
+        make: ends_open,
+    },
+    Screen {
+        name: "first cell open, cursor on the last",
+        make: first_open,
+    },
+    Screen {
+        name: "last cell open, cursor on the first",
+        make: last_open,
+    },
+    Screen {
+        name: "each cell an open field",
+        make: each_a_field,
+    },
+];
+
+fn form(size: Size) -> Ours {
+    let mut ours = Ours::open(size);
+    ours.take(&streams::one_form());
+    ours
+}
+
+fn one_field(size: Size) -> Ours {
+    made(size, |_, _| OPEN)
+}
+
+fn ends_open(size: Size) -> Ours {
+    made(size, |cell, last| open_if(cell == 0 || cell == last))
+}
+
+fn first_open(size: Size) -> Ours {
+    let mut ours = made(size, |cell, _| open_if(cell == 0));
+    ours.go(size.cells() - 1);
+    ours
+}
+
+fn last_open(size: Size) -> Ours {
+    made(size, |cell, last| open_if(cell == last))
+}
+
+fn each_a_field(size: Size) -> Ours {
+    made(size, |cell, _| [OPEN, ANOTHER_OPEN][cell % 2])
+}
+
+fn open_if(open: bool) -> u8 {
+    if open {
+        OPEN
+    } else {
+        PROTECTED
+    }
+}
+
+/// A full screen with these attribute bytes, by cell and last cell, and the
+/// cursor on its first cell.
+fn made(size: Size, attribute: impl Fn(usize, usize) -> u8) -> Ours {
+    let mut ours = Ours::open(size);
+    ours.chars.fill(b'x');
+    for (cell, attr) in ours.attrs.iter_mut().enumerate() {
+        *attr = attribute(cell, size.cells() - 1);
+    }
+    ours
+}

@@ -1,0 +1,186 @@
+//! The inputs: what a host sends. Both sides of a row take the same bytes.
+
+const IAC: u8 = 255;
+const DO: u8 = 253;
+const VERBS: [u8; 4] = [251, 252, DO, 254];
+const SB: u8 = 250;
+const SE: u8 = 240;
+const DET: u8 = 20;
+
+const MOVE_CURSOR: u8 = 5;
+const ERASE_SCREEN: u8 = 29;
+const FORMAT_DATA: u8 = 36;
+const LAST_CODE: u8 = 41;
+
+/// The last three are right for FORMAT DATA, REPEAT and SUPPRESS PROTECTION.
+const PARAMETERS: [[u8; 5]; 4] = [
+    [1, 1, 1, 1, 1],
+    [1, 0, 0, 1, 1],
+    [9, b'x', 1, 1, 1],
+    [DO, 1, 1, 1, 1],
+];
+
+/// Turns option 20 on.
+pub const DO_DET: [u8; 3] = [IAC, DO, DET];
+
+const ANY: u8 = 0x00;
+const PROTECTED: u8 = 0x08;
+const ALPHABETIC: u8 = 0x10;
+const NUMERIC: u8 = 0x18;
+
+/// A label, and after it a field of so many cells with this attribute byte.
+struct Entry {
+    x: u8,
+    y: u8,
+    label: &'static str,
+    cells: u8,
+    attribute: u8,
+}
+
+const fn entry(x: u8, y: u8, label: &'static str, cells: u8, attribute: u8) -> Entry {
+    Entry {
+        x,
+        y,
+        label,
+        cells,
+        attribute,
+    }
+}
+
+const PATIENT: [Entry; 12] = [
+    entry(28, 0, "PATIENT RECORD", 0, ANY),
+    entry(2, 2, "Family name: ", 30, ALPHABETIC),
+    entry(2, 3, "Given names: ", 30, ALPHABETIC),
+    entry(52, 2, "Number: ", 10, NUMERIC),
+    entry(52, 3, "Ward:   ", 4, ANY),
+    entry(2, 5, "Born (year month day): ", 10, NUMERIC),
+    entry(2, 7, "Weight: ", 6, NUMERIC),
+    entry(16, 7, " kg", 0, ANY),
+    entry(30, 7, "Height: ", 5, NUMERIC),
+    entry(43, 7, " cm", 0, ANY),
+    entry(2, 9, "Allergies: ", 60, ANY),
+    entry(2, 22, "Fill in the fields, then press SEND.", 0, ANY),
+];
+
+const DOSE: [Entry; 14] = [
+    entry(30, 0, "DOSING ORDER", 0, ANY),
+    entry(2, 2, "Drug:     ", 32, ALPHABETIC),
+    entry(2, 3, "Strength: ", 8, NUMERIC),
+    entry(20, 3, " mg in ", 6, NUMERIC),
+    entry(33, 3, " ml", 0, ANY),
+    entry(2, 5, "Dose:     ", 8, NUMERIC),
+    entry(20, 5, " mg", 0, ANY),
+    entry(2, 6, "Every:    ", 3, NUMERIC),
+    entry(15, 6, " hours, for ", 3, NUMERIC),
+    entry(30, 6, " days", 0, ANY),
+    entry(2, 8, "Route:    ", 12, ALPHABETIC),
+    entry(2, 10, "Ordered by: ", 24, ALPHABETIC),
+    entry(42, 10, "Checked by: ", 24, ALPHABETIC),
+    entry(2, 22, "The dose is for the weight on the record.", 0, ANY),
+];
+
+const WARNING: [Entry; 4] = [
+    entry(20, 8, "This drug is on the list of allergies.", 0, ANY),
+    entry(20, 10, "Give it all the same (Y or N)? ", 1, ALPHABETIC),
+    entry(20, 12, "Reason: ", 30, ANY),
+    entry(20, 14, "Second signature: ", 20, ALPHABETIC),
+];
+
+const FORMS: [&[Entry]; 3] = [&PATIENT, &DOSE, &WARNING];
+
+/// One form after the other, each whole, until there are so many bytes. They
+/// fit on 80 by 24 and draw no reply.
+pub fn forms(length: usize) -> Vec<u8> {
+    let mut bytes = Vec::new();
+    for form in FORMS.into_iter().cycle() {
+        if bytes.len() >= length {
+            break;
+        }
+        paint(form, &mut bytes);
+    }
+    bytes
+}
+
+/// One form, and the cursor at the start of its first field.
+pub fn one_form() -> Vec<u8> {
+    let mut bytes = Vec::new();
+    paint(&PATIENT, &mut bytes);
+    let first = &PATIENT[1];
+    bytes.extend(move_cursor(first.x + first.label.len() as u8, first.y));
+    bytes
+}
+
+/// Erases the screen, writes each label and opens the field after it, then
+/// protects the label.
+fn paint(form: &[Entry], bytes: &mut Vec<u8>) {
+    bytes.extend(subcommand(&[ERASE_SCREEN]));
+    for entry in form {
+        bytes.extend(move_cursor(entry.x, entry.y));
+        bytes.extend(entry.label.as_bytes());
+        if entry.cells > 0 {
+            bytes.extend(format_data(entry.attribute, entry.cells));
+        }
+        bytes.extend(move_cursor(entry.x, entry.y));
+        bytes.extend(format_data(PROTECTED, entry.label.len() as u8));
+    }
+}
+
+fn move_cursor(x: u8, y: u8) -> Vec<u8> {
+    subcommand(&[MOVE_CURSOR, x, y])
+}
+
+fn format_data(attribute: u8, cells: u8) -> Vec<u8> {
+    subcommand(&[FORMAT_DATA, attribute, 0, 0, cells])
+}
+
+/// For bytes without an IAC, which would have to be doubled.
+fn subcommand(bytes: &[u8]) -> Vec<u8> {
+    [&[IAC, SB, DET], bytes, &[IAC, SE]].concat()
+}
+
+/// Every negotiation, and every subcommand with 0 to 5 parameters of several
+/// values: each is obeyed or draws an ERROR.
+pub fn commands() -> Vec<Vec<u8>> {
+    let negotiations = VERBS.map(|verb| vec![IAC, verb, DET]);
+    let mut commands = Vec::from(negotiations);
+    for code in 0..=LAST_CODE {
+        for parameters in PARAMETERS {
+            for count in 0..=parameters.len() {
+                let bytes = [&[code], &parameters[..count]].concat();
+                commands.push(subcommand(&bytes));
+            }
+        }
+    }
+    commands
+}
+
+const WORDS: [&str; 12] = [
+    "the", "dose", "of", "a", "patient", "is", "checked", "against", "weight", "before", "it",
+    "given.",
+];
+
+/// Lines of words, each below 80 characters and ended in this way, until there
+/// are so many bytes.
+pub fn text(length: usize, line_end: &[u8]) -> Vec<u8> {
+    let mut bytes = Vec::new();
+    let mut word = 0;
+    for width in [71, 64, 79, 58, 75, 12, 68].into_iter().cycle() {
+        if bytes.len() >= length {
+            break;
+        }
+        bytes.extend(line(width, &mut word));
+        bytes.extend(line_end);
+    }
+    bytes
+}
+
+fn line(width: usize, word: &mut usize) -> Vec<u8> {
+    let mut line = Vec::new();
+    while line.len() < width {
+        line.extend(WORDS[*word % WORDS.len()].as_bytes());
+        line.push(b' ');
+        *word += 1;
+    }
+    line.truncate(width);
+    line
+}

@@ -1,0 +1,171 @@
+// Counts what a Telnet stream holds, from a reader at rest. It is the reader used by itself: no screen, no option's meaning.
+// Runs of data and of payload are taken at once, so that text costs little; the reader is asked about the other bytes.
+ghost use mathlib.Core.Path.{_≡_};
+ghost use Prim.Native.Nat.{_<_};
+ghost use Rattle.telnet.specs.declared.Phase.the-variants.{Rest, Inside};
+ghost use Rattle.telnet.specs.Stream.{told, eventsOf};
+ghost use Rattle.tally.specs.Counts.{isData, isNegotiation, isPayload, isEnd, countOf, tallyOf};
+ghost use Rattle.tally.specs.Counting.{plus, Fit, Counting, Further};
+use telnet::Event;
+use telnet::Phase;
+use telnet::read;
+use telnet::run::data_end;
+
+// How many events of each kind.
+pub struct Tally {
+    pub data_bytes: usize,
+    pub negotiations: usize,
+    pub payload: usize,
+    pub ended: usize,
+}
+
+// A stream read up to `at`: where the reader stands, and the counts so far.
+struct Place {
+    phase: Phase,
+    at: usize,
+    tally: Tally,
+}
+
+// One event more.
+fn counted(tally: Tally, event: Event) -> Tally
+    requires { ⌜ Fit (plus tally (tallyOf (told event))) ⌝ }
+    ensures { λ r. ⌜ r ≡ plus tally (tallyOf (told event)) ⌝ }
+{
+    let mut next = tally;
+    match event {
+        Event::Nothing => {}
+        Event::Data(_) => next.data_bytes += 1,
+        Event::Negotiation { verb: _, option: _ } => next.negotiations += 1,
+        Event::Begin(_) => {}
+        Event::Sub { option: _, byte: _ } => next.payload += 1,
+        Event::End(_) => next.ended += 1,
+        Event::EndBare => next.ended += 1,
+        Event::Lost => {}
+    }
+    next
+}
+
+// One byte, by the reader.
+fn one(place: Place, input: &[u8]) -> Place
+    requires { ⌜ Counting (now input) (place .phase) (place .at) (place .tally) ⌝ }
+    requires { do ⌜ place .at < (← ⟦input.len()⟧) ⌝ }
+    ensures { λ r. ⌜ Further (now (input .entry)) (place .at) r ⌝ }
+{
+    let phase = place.phase;
+    let at = place.at;
+    let step = read(phase, input[at]);
+    let event = step.event;
+    let next = step.phase;
+    let tally = counted(place.tally, event);
+    Place {
+        phase: next,
+        at: at + 1,
+        tally: tally,
+    }
+}
+
+// At rest: the data up to the next IAC, and that IAC.
+fn data_run(tally: Tally, at: usize, input: &[u8]) -> Place
+    requires { ⌜ Counting (now input) Rest at tally ⌝ }
+    requires { do ⌜ at < (← ⟦input.len()⟧) ⌝ }
+    ensures { λ r. ⌜ Further (now (input .entry)) at r ⌝ }
+{
+    let end = data_end(input, at);
+    let mut next = tally;
+    next.data_bytes += end - at;
+    if end < input.len() {
+        Place {
+            phase: Phase::Iac,
+            at: end + 1,
+            tally: next,
+        }
+    } else {
+        Place {
+            phase: Phase::Rest,
+            at: end,
+            tally: next,
+        }
+    }
+}
+
+// In the subnegotiation of this option: its payload up to the next IAC, and that IAC.
+fn payload_run(option: u8, tally: Tally, at: usize, input: &[u8]) -> Place
+    requires { ⌜ Counting (now input) (Inside option) at tally ⌝ }
+    requires { do ⌜ at < (← ⟦input.len()⟧) ⌝ }
+    ensures { λ r. ⌜ Further (now (input .entry)) at r ⌝ }
+{
+    let end = data_end(input, at);
+    let mut next = tally;
+    next.payload += end - at;
+    if end < input.len() {
+        Place {
+            phase: Phase::InsideIac(option),
+            at: end + 1,
+            tally: next,
+        }
+    } else {
+        Place {
+            phase: Phase::Inside(option),
+            at: end,
+            tally: next,
+        }
+    }
+}
+
+// A run where the reader stands in one, else a byte: the phase is looked at once for either.
+fn turn(place: Place, input: &[u8]) -> Place
+    requires { ⌜ Counting (now input) (place .phase) (place .at) (place .tally) ⌝ }
+    requires { do ⌜ place .at < (← ⟦input.len()⟧) ⌝ }
+    ensures { λ r. ⌜ Further (now (input .entry)) (place .at) r ⌝ }
+{
+    let phase = place.phase;
+    let at = place.at;
+    match phase {
+        Phase::Rest => data_run(place.tally, at, input),
+        Phase::Inside(option) => payload_run(option, place.tally, at, input),
+        _ => one(place, input),
+    }
+}
+
+// The counts of a whole stream.
+pub fn tally_of(input: &[u8]) -> Tally
+    ensures { λ r. ⌜ r ≡ tallyOf (eventsOf Rest (now (input .entry))) ⌝ }
+{
+    let none = Tally {
+        data_bytes: 0,
+        negotiations: 0,
+        payload: 0,
+        ended: 0,
+    };
+    let mut place = Place {
+        phase: Phase::Rest,
+        at: 0,
+        tally: none,
+    };
+    while place.at < input.len() {
+        place = turn(place, input);
+    }
+    place.tally
+}
+
+// The same for C, each count through a pointer of its own:
+// void telnet_tally(const uint8_t *input, size_t length, size_t *data, size_t *negotiations, size_t *payload, size_t *ended);
+#[no_mangle]
+pub extern "C" fn telnet_tally(
+    input: &[u8],
+    data_bytes: &mut usize,
+    negotiations: &mut usize,
+    payload: &mut usize,
+    ended: &mut usize,
+)
+    ensures { λ _. ⌜ now (data_bytes .exit) ≡ countOf isData (eventsOf Rest (now (input .entry))) ⌝ }
+    ensures { λ _. ⌜ now (negotiations .exit) ≡ countOf isNegotiation (eventsOf Rest (now (input .entry))) ⌝ }
+    ensures { λ _. ⌜ now (payload .exit) ≡ countOf isPayload (eventsOf Rest (now (input .entry))) ⌝ }
+    ensures { λ _. ⌜ now (ended .exit) ≡ countOf isEnd (eventsOf Rest (now (input .entry))) ⌝ }
+{
+    let tally = tally_of(input);
+    *data_bytes = tally.data_bytes;
+    *negotiations = tally.negotiations;
+    *payload = tally.payload;
+    *ended = tally.ended;
+}

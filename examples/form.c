@@ -1,0 +1,96 @@
+/* A form in C. The host paints
+ *
+ *     WT 70 #4
+ *     UNIT mg
+ *
+ * with the weight "70 " and the unit "mg " open and all else protected. The operator deletes a
+ * character of the weight, and sends the form. Status 1 where a call answers something else than
+ * it should. */
+#include <stdio.h>
+#include <stdlib.h>
+
+#include "det.h"
+
+#define WIDTH 8
+#define HEIGHT 2
+#define CELLS (WIDTH * HEIGHT)
+
+static uint8_t chars[CELLS];
+static uint8_t attrs[CELLS];
+static uint8_t session[DET_SESSION_LENGTH];
+static uint8_t reply[DET_REPLY_ROOM(WIDTH, HEIGHT)];
+
+static const uint8_t paint[] = {
+    255, 253, 20,                                       /* DO 20 */
+    'W', 'T', ' ', '7', '0', ' ', '#', '4',             /* text */
+    'U', 'N', 'I', 'T', ' ', 'm', 'g', ' ',
+    255, 250, 20, 5, 0, 0, 255, 240,                    /* MOVE CURSOR to column 0, line 0 */
+    255, 250, 20, 36, DET_PROTECTED, 0, 0, 3, 255, 240, /* FORMAT DATA: 3 cells */
+    255, 250, 20, 5, 6, 0, 255, 240,                    /* MOVE CURSOR to column 6, line 0 */
+    255, 250, 20, 36, DET_PROTECTED, 0, 0, 7, 255, 240, /* FORMAT DATA: 7 cells */
+    255, 250, 20, 5, 3, 0, 255, 240                     /* MOVE CURSOR to column 3, line 0 */
+};
+
+static void expect(const char *what, size_t expected, size_t answer)
+{
+    if (answer != expected) {
+        fprintf(stderr, "form: %s: %zu, expected %zu\n", what, answer, expected);
+        exit(1);
+    }
+}
+
+static void print_screen(const char *title)
+{
+    printf("%s\n", title);
+    for (int y = 0; y < HEIGHT; y++)
+        printf("|%.*s|\n", WIDTH, (const char *)chars + y * WIDTH);
+}
+
+static void print_reply(size_t written)
+{
+    if (written == 0)
+        return;
+    printf("the host reads");
+    for (size_t i = 0; i < written; i++)
+        printf(" %02x", reply[i]);
+    printf("\n");
+}
+
+/* Hands on all of the input: a call leaves the rest where the reply has no more room. */
+static void host(const uint8_t *input, size_t length)
+{
+    while (length > 0) {
+        size_t taken, written;
+        expect("det_host", DET_DONE,
+               det_host(session, sizeof session, input, length, chars, sizeof chars,
+                        attrs, sizeof attrs, reply, sizeof reply, &taken, &written));
+        print_reply(written);
+        input += taken;
+        length -= taken;
+    }
+}
+
+static void key(uint32_t code)
+{
+    size_t taken, written;
+    expect("det_key", DET_DONE,
+           det_key(session, sizeof session, code, chars, sizeof chars,
+                   attrs, sizeof attrs, reply, sizeof reply, &taken, &written));
+    expect("keys taken", 1, taken);
+    print_reply(written);
+}
+
+int main(void)
+{
+    expect("det_open", DET_DONE,
+           det_open(WIDTH, HEIGHT, chars, sizeof chars, attrs, sizeof attrs,
+                    session, sizeof session));
+    host(paint, sizeof paint);
+    print_screen("the form as the host painted it");
+    key(DET_KEY_DELETE);
+    print_screen("after the delete key in the weight");
+    printf("the send key\n");
+    key(DET_KEY_SEND);
+    expect("errors in writing this", 0, (size_t)(fflush(stdout) != 0));
+    return 0;
+}

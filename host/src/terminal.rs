@@ -1,0 +1,220 @@
+//! The three operations, safe: a session, and buffers that are lent for one
+//! call.
+//!
+//! Nothing that is lent can overlap: every buffer that a call may change is a
+//! `&mut` of its own, so a call with one buffer in two places does not compile.
+//!
+//! ```
+//! use host::terminal::{self, reply_room};
+//!
+//! let (mut chars, mut attrs) = ([0; 16], [0; 16]);
+//! let mut session = terminal::open(8, 2, &mut chars, &mut attrs).unwrap();
+//! let mut reply = [0; reply_room(8, 2)];
+//! let counts = session.host_bytes(b"HI", &mut chars, &mut attrs, &mut reply).unwrap();
+//! assert_eq!((counts.taken, counts.written), (2, 0));
+//! assert_eq!(&chars[..3], b"HI ");
+//! ```
+//!
+//! ```compile_fail,E0499
+//! use host::terminal::{self, reply_room};
+//!
+//! let (mut chars, mut attrs) = ([0; 16], [0; 16]);
+//! let mut session = terminal::open(8, 2, &mut chars, &mut attrs).unwrap();
+//! let mut reply = [0; reply_room(8, 2)];
+//! let counts = session.host_bytes(b"HI", &mut chars, &mut chars, &mut reply).unwrap();
+//! ```
+
+use crate::raw;
+use crate::refusal::Refusal;
+
+/// Where in a session's bytes each part of it stands.
+pub mod at {
+    pub const WIDTH: usize = 0;
+    pub const HEIGHT: usize = 1;
+    pub const X: usize = 2;
+    pub const Y: usize = 3;
+    pub const ON: usize = 4;
+    pub const SUPPRESSED: usize = 5;
+    pub const READER: usize = 6;
+    pub const OPTION: usize = 7;
+    pub const HELD: usize = 8;
+    pub const HELD_COUNT: usize = 14;
+}
+
+pub const SESSION_LENGTH: usize = 15;
+
+const DONE: u8 = 0;
+const NO_SESSION: u8 = 255;
+
+/// The length of the shortest reply buffer for a screen of this size.
+pub const fn reply_room(width: usize, height: usize) -> usize {
+    7 * width * height + 2
+}
+
+/// What a terminal is besides its screen. The default is the session that a
+/// refused [`open`] leaves: 0 by 0, refused with 1 by every call.
+#[derive(Clone, Debug, Default, PartialEq, Eq)]
+pub struct Session([u8; SESSION_LENGTH]);
+
+/// A column and a line, from 0.
+#[derive(Clone, Copy, Debug, PartialEq, Eq)]
+pub struct Cursor {
+    pub x: u8,
+    pub y: u8,
+}
+
+/// Where the reader of Telnet bytes stands; in a subnegotiation with its
+/// option.
+#[derive(Clone, Copy, Debug, PartialEq, Eq)]
+pub enum Reader {
+    Data,
+    Iac,
+    Will,
+    Wont,
+    Do,
+    Dont,
+    Sb,
+    SbIac,
+    Sub(u8),
+    SubIac(u8),
+}
+
+/// How many host bytes or keys a call took, and how many reply bytes it wrote.
+#[derive(Clone, Copy, Debug, Default, PartialEq, Eq)]
+pub struct Counts {
+    pub taken: usize,
+    pub written: usize,
+}
+
+/// Opens a screen: spaces, attributes 0, a new session. Refused, it changes no
+/// buffer.
+pub fn open(
+    width: usize,
+    height: usize,
+    chars: &mut [u8],
+    attrs: &mut [u8],
+) -> Result<Session, (Refusal, Session)> {
+    let mut session = Session::default();
+    match answer(raw::open(width, height, chars, attrs, &mut session.0)) {
+        Ok(()) => Ok(session),
+        Err(refusal) => Err((refusal, session)),
+    }
+}
+
+impl Session {
+    /// None where the bytes are no session.
+    pub fn from_bytes(bytes: [u8; SESSION_LENGTH]) -> Option<Session> {
+        let mut session = Session(bytes);
+        // Every session refuses a call that is lent no screen, and stays.
+        let (mut taken, mut written) = (0, 0);
+        let number = raw::key(
+            &mut session.0,
+            0,
+            &mut [],
+            &[],
+            &mut [],
+            &mut taken,
+            &mut written,
+        );
+        (number != NO_SESSION).then_some(session)
+    }
+
+    pub fn as_bytes(&self) -> &[u8; SESSION_LENGTH] {
+        &self.0
+    }
+
+    /// Hands on bytes from the host; the rest of them is to be handed on
+    /// again where not all are taken. The reply's first `written` bytes are to
+    /// go to the host.
+    pub fn host_bytes(
+        &mut self,
+        input: &[u8],
+        chars: &mut [u8],
+        attrs: &mut [u8],
+        reply: &mut [u8],
+    ) -> Result<Counts, Refusal> {
+        let mut counts = Counts::default();
+        let Counts { taken, written } = &mut counts;
+        let session = &mut self.0;
+        answer(raw::host(
+            session, input, chars, attrs, reply, taken, written,
+        ))?;
+        Ok(counts)
+    }
+
+    /// Hands on one key.
+    pub fn key(
+        &mut self,
+        key: u32,
+        chars: &mut [u8],
+        attrs: &[u8],
+        reply: &mut [u8],
+    ) -> Result<Counts, Refusal> {
+        let mut counts = Counts::default();
+        let Counts { taken, written } = &mut counts;
+        let session = &mut self.0;
+        answer(raw::key(session, key, chars, attrs, reply, taken, written))?;
+        Ok(counts)
+    }
+
+    pub fn width(&self) -> usize {
+        usize::from(self.0[at::WIDTH])
+    }
+
+    pub fn height(&self) -> usize {
+        usize::from(self.0[at::HEIGHT])
+    }
+
+    pub fn cursor(&self) -> Cursor {
+        Cursor {
+            x: self.0[at::X],
+            y: self.0[at::Y],
+        }
+    }
+
+    /// Whether option 20 is on.
+    pub fn is_on(&self) -> bool {
+        self.0[at::ON] == 1
+    }
+
+    /// Whether protection is suppressed.
+    pub fn is_suppressed(&self) -> bool {
+        self.0[at::SUPPRESSED] == 1
+    }
+
+    pub fn reader(&self) -> Reader {
+        let option = self.0[at::OPTION];
+        match self.0[at::READER] {
+            0 => Reader::Data,
+            1 => Reader::Iac,
+            2 => Reader::Will,
+            3 => Reader::Wont,
+            4 => Reader::Do,
+            5 => Reader::Dont,
+            6 => Reader::Sb,
+            7 => Reader::SbIac,
+            8 => Reader::Sub(option),
+            _ => Reader::SubIac(option),
+        }
+    }
+
+    /// The six places for the bytes of a subnegotiation.
+    pub fn held(&self) -> &[u8] {
+        &self.0[at::HELD..at::HELD_COUNT]
+    }
+
+    /// How many of them are held.
+    pub fn held_count(&self) -> u8 {
+        self.0[at::HELD_COUNT]
+    }
+}
+
+/// What the library's number says. It never says `NO_SESSION` here, since a
+/// [`Session`] is one.
+fn answer(number: u8) -> Result<(), Refusal> {
+    match Refusal::of_number(number) {
+        None if number == DONE => Ok(()),
+        None => panic!("the terminal's library answered {number}"),
+        Some(refusal) => Err(refusal),
+    }
+}

@@ -1,0 +1,492 @@
+//! What the contracts of the three operations ask, run on the static library.
+
+use std::collections::BTreeSet;
+
+use host::raw;
+use host::refusal::Refusal;
+use host::terminal::{self, at, reply_room, Counts, Cursor, Reader, Session, SESSION_LENGTH};
+
+use Call::{Host, Key};
+
+/// What the lent reply bytes are before a call, and what the counts are.
+const LENT: u8 = 0xa5;
+const COUNT: usize = 77;
+
+/// Form F: its characters and its attributes.
+const F: &[u8; 16] = b"WT 70 #4UNIT mg ";
+const P: u8 = 8;
+const ATTRS: [u8; 16] = [P, P, P, 0, 0, 0, P, P, P, P, P, P, P, 0, 0, 0];
+
+#[derive(Clone, Copy, Debug)]
+enum Call {
+    Host(&'static [u8]),
+    Key(u32),
+}
+
+/// The number that a call returns, and its two counts.
+type Answer = (u8, usize, usize);
+
+/// All that a call can be given, and all that it can change but the counts.
+#[derive(Clone, Debug, PartialEq, Eq)]
+struct Lent {
+    session: Vec<u8>,
+    chars: Vec<u8>,
+    attrs: Vec<u8>,
+    reply: Vec<u8>,
+}
+
+impl Lent {
+    /// Form F, option 20 on, the least reply room.
+    fn form(x: u8, y: u8) -> Lent {
+        Lent {
+            session: vec![8, 2, x, y, 1, 0, 0, 0, 0, 0, 0, 0, 0, 0, 0],
+            chars: F.to_vec(),
+            attrs: ATTRS.to_vec(),
+            reply: vec![LENT; reply_room(8, 2)],
+        }
+    }
+
+    fn changed(mut self, change: Change) -> Lent {
+        change(&mut self);
+        self
+    }
+
+    /// The call by its slices, and by a [`Session`] where the bytes are one:
+    /// both have to come to the same.
+    fn call(&mut self, call: Call) -> Answer {
+        let mut twin = self.clone();
+        let answer = self.raw_call(call);
+        match twin.safe_call(call) {
+            Some(safe) => assert_eq!((safe, &twin), (answer, &*self), "{call:?}"),
+            None => assert_eq!(answer.0, 255, "{call:?}"),
+        }
+        answer
+    }
+
+    fn raw_call(&mut self, call: Call) -> Answer {
+        let (mut taken, mut written) = (COUNT, COUNT);
+        let (session, chars, attrs) = (&mut self.session, &mut self.chars, &mut self.attrs);
+        let (reply, t, w) = (&mut self.reply, &mut taken, &mut written);
+        let number = match call {
+            Host(input) => raw::host(session, input, chars, attrs, reply, t, w),
+            Key(key) => raw::key(session, key, chars, attrs, reply, t, w),
+        };
+        (number, taken, written)
+    }
+
+    fn safe_call(&mut self, call: Call) -> Option<Answer> {
+        let mut session = Session::from_bytes(self.session.clone().try_into().ok()?)?;
+        let (chars, attrs, reply) = (&mut self.chars, &mut self.attrs, &mut self.reply);
+        let result = match call {
+            Host(input) => session.host_bytes(input, chars, attrs, reply),
+            Key(key) => session.key(key, chars, attrs, reply),
+        };
+        self.session = session.as_bytes().to_vec();
+        Some(match result {
+            Ok(counts) => (0, counts.taken, counts.written),
+            Err(refusal) => (refusal.number(), 0, 0),
+        })
+    }
+
+    /// Tries a call that must be refused with this number.
+    fn refuses(mut self, number: u8, call: Call) {
+        let before = self.clone();
+        let answer = self.call(call);
+        assert_eq!(answer, (number, 0, 0), "{call:?} on {before:?}");
+        assert_eq!(self, before, "{call:?}, refused with {number}");
+    }
+}
+
+type Change = fn(&mut Lent);
+type Row = (u8, Change);
+
+/// What makes host bytes and keys alike refused.
+const REFUSALS: &[Row] = &[
+    (255, |lent| lent.session.clear()),
+    (255, |lent| lent.session.truncate(14)),
+    (255, |lent| lent.session.push(0)),
+    (255, |lent| lent.session[at::ON] = 2),
+    (255, |lent| lent.session[at::SUPPRESSED] = 2),
+    (255, |lent| lent.session[at::READER] = 10),
+    (255, |lent| lent.session[at::OPTION] = 1),
+    (255, |lent| {
+        lent.session[at::READER..at::HELD].copy_from_slice(&[7, 20])
+    }),
+    (1, |lent| lent.session[at::WIDTH] = 0),
+    (1, |lent| lent.session[at::WIDTH] = 133),
+    (1, |lent| lent.session[at::HEIGHT] = 0),
+    (1, |lent| lent.session[at::HEIGHT] = 65),
+    (2, |lent| lent.chars.truncate(15)),
+    (2, |lent| lent.chars.push(b' ')),
+    (2, |lent| lent.attrs.truncate(15)),
+    (2, |lent| lent.attrs.push(0)),
+    (3, |lent| lent.chars[0] = 31),
+    (3, |lent| lent.chars[15] = 127),
+    (4, |lent| lent.session[at::X] = 8),
+    (4, |lent| lent.session[at::Y] = 2),
+    (4, |lent| lent.session[at::HELD_COUNT] = 7),
+    (5, |lent| lent.reply.truncate(113)),
+    (5, |lent| lent.reply.clear()),
+];
+
+/// Neighbours in the order of refusals, both given.
+const ORDER: &[Row] = &[
+    (255, |lent| {
+        (lent.session[at::ON], lent.session[at::WIDTH]) = (2, 0)
+    }),
+    (1, |lent| {
+        lent.session[at::WIDTH] = 0;
+        lent.chars.clear();
+    }),
+    (2, |lent| {
+        lent.attrs.clear();
+        lent.chars[0] = 0;
+    }),
+    (3, |lent| (lent.chars[0], lent.session[at::X]) = (0, 8)),
+    (4, |lent| {
+        lent.session[at::X] = 8;
+        lent.reply.clear();
+    }),
+];
+
+/// What makes these keys refused.
+const KEYS: &[(u8, Change, &[u32])] = &[
+    (
+        5,
+        |lent| {
+            lent.session[at::ON] = 0;
+            lent.session[at::X] = 6;
+            lent.reply.clear();
+        },
+        &[0, 13, 'A' as u32],
+    ),
+    (9, |_| {}, &[0, 7, 10, 12, 14, 31, 144, 255]),
+    (9, |_| {}, &[256, 256 + 'A' as u32, 0x1_000d, u32::MAX]),
+    (9, |lent| lent.session[at::ON] = 0, &[144]),
+    (8, |lent| lent.session[at::ON] = 0, &[13, 128, 143]),
+    (
+        6,
+        |lent| lent.session[at::X] = 6,
+        &['A' as u32, ' ' as u32, 127],
+    ),
+    (7, |lent| lent.attrs[3] = 0x18, &['A' as u32, ',' as u32]),
+    (7, |lent| lent.attrs[3] = 0x10, &['7' as u32, '@' as u32]),
+];
+
+#[test]
+fn every_refusal_leaves_all_as_it_came() {
+    let mut seen = BTreeSet::new();
+    for &(number, change) in REFUSALS.iter().chain(ORDER) {
+        for call in [Host(b""), Host(b"A"), Key('A' as u32), Key(0)] {
+            Lent::form(3, 0).changed(change).refuses(number, call);
+        }
+        seen.insert(number);
+    }
+    for &(number, change, keys) in KEYS {
+        for &key in keys {
+            Lent::form(3, 0).changed(change).refuses(number, Key(key));
+        }
+        seen.insert(number);
+    }
+    assert!(seen.into_iter().eq((1..=9).chain([255])));
+}
+
+/// The outermost that is not refused.
+const TAKEN: &[Change] = &[
+    |_| {},
+    |lent| lent.chars[0] = 32,
+    |lent| lent.chars[15] = 126,
+    |lent| (lent.session[at::X], lent.session[at::Y]) = (7, 1),
+    |lent| lent.session[at::HELD_COUNT] = 6,
+    |lent| lent.reply.push(LENT),
+    |lent| lent.session[at::ON] = 0,
+    |lent| lent.attrs.fill(255),
+];
+
+#[test]
+fn what_is_not_refused_is_done() {
+    for &change in TAKEN {
+        let lent = Lent::form(3, 0).changed(change);
+        assert_eq!(lent.clone().call(Host(b"")), (0, 0, 0), "{lent:?}");
+        assert_eq!(lent.clone().call(Host(b"A")), (0, 1, 0), "{lent:?}");
+        assert_eq!(lent.clone().call(Key(9)), (0, 1, 0), "{lent:?}");
+    }
+}
+
+/// The answer; width and height; the lengths of characters, attributes and
+/// the place for the session.
+const OPENS: &[(u8, [usize; 2], [usize; 3])] = &[
+    (0, [8, 2], [16, 16, 15]),
+    (0, [1, 1], [1, 1, 15]),
+    (0, [132, 64], [8448, 8448, 15]),
+    (1, [133, 64], [8512, 8512, 15]),
+    (1, [132, 65], [8580, 8580, 15]),
+    (1, [0, 2], [0, 0, 15]),
+    (1, [8, 0], [0, 0, 15]),
+    (1, [0, 0], [1, 1, 15]),
+    (1, [256 + 8, 2], [16, 16, 15]),
+    (1, [8, (1 << 32) + 2], [16, 16, 15]),
+    (1, [usize::MAX, usize::MAX], [1, 1, 15]),
+    (2, [8, 2], [15, 16, 15]),
+    (2, [8, 2], [17, 16, 15]),
+    (2, [8, 2], [16, 15, 15]),
+    (2, [8, 2], [16, 17, 15]),
+    (2, [8, 2], [0, 0, 15]),
+    (255, [8, 2], [16, 16, 14]),
+    (255, [8, 2], [16, 16, 16]),
+    (255, [0, 0], [1, 1, 0]),
+];
+
+#[test]
+fn open_done_and_refused() {
+    for &(number, [width, height], [c, a, s]) in OPENS {
+        let (mut chars, mut attrs, mut session) = (vec![0x2a; c], vec![0x11; a], vec![LENT; s]);
+        let answer = raw::open(width, height, &mut chars, &mut attrs, &mut session);
+        let (char, attr, fresh) = match number {
+            0 => (b' ', 0, fresh(width as u8, height as u8)),
+            255 => (0x2a, 0x11, vec![LENT; s]),
+            _ => (0x2a, 0x11, fresh(0, 0)),
+        };
+        let case = format!("open {width} {height} with {c}, {a} and {s}");
+        assert_eq!((answer, session), (number, fresh), "{case}");
+        assert_eq!((chars, attrs), (vec![char; c], vec![attr; a]), "{case}");
+    }
+}
+
+fn fresh(width: u8, height: u8) -> Vec<u8> {
+    let mut session = vec![0; SESSION_LENGTH];
+    session[..2].copy_from_slice(&[width, height]);
+    session
+}
+
+#[test]
+fn a_refused_open_leaves_a_session_that_is_refused() {
+    let (mut chars, mut attrs, mut reply) = ([0; 2], [0; 2], [0; 99]);
+    let refused = terminal::open(2, 0, &mut chars, &mut attrs);
+    assert_eq!(refused, Err((Refusal::Size, Session::default())));
+    let mut session = Session::default();
+    let host = session.host_bytes(b"A", &mut chars, &mut attrs, &mut reply);
+    let key = session.key(9, &mut chars, &attrs, &mut reply);
+    assert_eq!((host, key), (Err(Refusal::Size), Err(Refusal::Size)));
+    let refused = terminal::open(2, 1, &mut chars, &mut attrs[..1]);
+    assert_eq!(refused, Err((Refusal::Length, Session::default())));
+}
+
+/// A name, the cursor, the call; then the screen, the cursor and the reply.
+type Worked = (
+    &'static str,
+    [u8; 2],
+    Call,
+    &'static [u8; 16],
+    [u8; 2],
+    &'static [u8],
+);
+
+const SENT: &[u8] = b"\xff\xfa\x14\x1c\x03\x00\xff\xf070 \xff\xfa\x14\x27\xff\xf0mg ";
+
+#[rustfmt::skip]
+const WORKED: &[Worked] = &[
+    ("P1", [3, 0], Host(b"\xff\xfa\x14\x10\xff\xf0"), b"WT 0  #4UNIT mg ", [3, 0], b""),
+    ("P2", [3, 0], Host(b"\xff\xfa\x14\x0f\xff\xf0"), b"WT  70#4UNIT mg ", [3, 0], b""),
+    ("P3", [3, 0], Host(b"\xff\xfa\x14\x15\xff\xf0"), F, [3, 0], SENT),
+    ("P4", [3, 0], Host(b"\xff\xfa\x14\x05\x09\x01\xff\xf0"), F, [7, 1],
+        b"\xff\xfa\x14\x29\x05\x03\xff\xf0"),
+    ("P4", [3, 0], Host(b"\xff\xfa\x14\x05\x07\x01\xff\xf0"), F, [7, 1], b""),
+    ("P5", [6, 0], Host(b"A"), F, [6, 0], b""),
+    ("P6", [5, 0], Key('8' as u32), b"WT 708#4UNIT mg ", [5, 1], b""),
+    ("P6", [5, 0], Host(b"8"), b"WT 708#4UNIT mg ", [6, 0], b""),
+    ("P7", [4, 0], Host(b"\xff\xfa\x14\x25\x03x\xff\xf0"), b"WT 7xx#4UNIT mg ", [6, 0], b""),
+    ("P8", [6, 1], Host(b"\xff\xfa\x14\x13\xff\xf0"), F, [5, 1], b""),
+    ("P8", [5, 1], Host(b"\xff\xfa\x14\x13\xff\xf0"), F, [3, 0], b""),
+    ("P8", [3, 0], Host(b"\xff\xfa\x14\x13\xff\xf0"), F, [0, 0], b""),
+    ("P9", [3, 0], Host(b"\xff\xfa\x14\xff\xf0"), F, [3, 0], b"\xff\xfa\x14\x29\x00\x0a\xff\xf0"),
+    ("P10", [3, 0], Host(b"\xff\xfa\x14\xff\xff\xff\xf0"), F, [3, 0],
+        b"\xff\xfa\x14\x29\xff\xff\x02\xff\xf0"),
+    ("DO 3", [3, 0], Host(b"\xff\xfd\x03"), F, [3, 0], b"\xff\xfc\x03"),
+    ("delete", [3, 0], Key(127), b"WT 0  #4UNIT mg ", [3, 0], b""),
+    ("send", [6, 1], Key(13), F, [3, 0], SENT),
+    ("tab", [3, 0], Key(9), F, [5, 1], b""),
+    ("back", [5, 1], Key(8), F, [5, 0], b""),
+    ("function 1", [0, 0], Key(128), F, [0, 0], b"\xff\xfa\x14\x28\x01\xff\xf0"),
+    ("function 16", [0, 0], Key(143), F, [0, 0], b"\xff\xfa\x14\x28\x10\xff\xf0"),
+];
+
+#[test]
+fn worked_forms() {
+    for &(name, [x, y], call, screen, cursor, reply) in WORKED {
+        let mut lent = Lent::form(x, y);
+        let taken = match call {
+            Host(input) => input.len(),
+            Key(_) => 1,
+        };
+        assert_eq!(lent.call(call), (0, taken, reply.len()), "{name}");
+        let mut after = Lent::form(cursor[0], cursor[1]);
+        after.chars.copy_from_slice(screen);
+        after.reply[..reply.len()].copy_from_slice(reply);
+        assert_eq!(lent, after, "{name}");
+    }
+    Lent::form(6, 0).refuses(6, Key('A' as u32));
+}
+
+#[test]
+fn what_show_prints() {
+    let (mut chars, mut attrs, mut reply) = ([0; 16], [1; 16], [0; reply_room(8, 2)]);
+    let mut session = terminal::open(8, 2, &mut chars, &mut attrs).expect("a size");
+    let counts = session.host_bytes(b"HI", &mut chars, &mut attrs, &mut reply);
+    let expected = Counts {
+        taken: 2,
+        written: 0,
+    };
+    assert_eq!(counts, Ok(expected));
+    assert_eq!(session.cursor(), Cursor { x: 2, y: 0 });
+    assert_eq!((&chars, attrs), (b"HI              ", [0; 16]));
+}
+
+/// Reply room and input; how many bytes are taken and written.
+const TAKING: &[(usize, &[u8], usize, usize)] = &[
+    (114, b"", 0, 0),
+    (114, b"\xff\xfd\x03", 3, 3),
+    (114, b"\xff\xfd\x03\xff\xfd\x03", 3, 3),
+    (116, b"\xff\xfd\x03\xff\xfd\x03", 3, 3),
+    (117, b"\xff\xfd\x03\xff\xfd\x03", 6, 6),
+    (117, b"\xff\xfd\x03\xff\xfd\x03A", 6, 6),
+    (114, b"A\xff\xfd\x03A", 4, 3),
+    (120, b"\xff\xfd\x03\xff\xfd\x03A", 7, 6),
+];
+
+#[test]
+fn bytes_are_taken_while_there_is_room() {
+    for &(room, input, taken, written) in TAKING {
+        let mut lent = Lent::form(3, 0);
+        lent.reply = vec![LENT; room];
+        let answer = lent.call(Host(input));
+        assert_eq!(answer, (0, taken, written), "{input:x?} with {room}");
+        let replies = b"\xff\xfc\x03".repeat(written / 3);
+        assert_eq!(lent.reply[..written], replies);
+        assert_eq!(lent.reply[written..], vec![LENT; room - written]);
+    }
+}
+
+/// Some of everything; its end is half read.
+const STREAM: &[u8] =
+    b"\xff\xfd\x14AB\r\n\x08C\xff\xff\xff\xfb\x14\xff\xfa\x14\x05\x03\x00\xff\xf0\
+    \xff\xfa\x14\x24\x08\x00\x00\x05\xff\xf0\xff\xfa\x14\x0a\xff\xf0zz\xff\xfa\x14\xff\xff\xff\xf0\
+    \xff\xfa\xff\xff\x01\xff\xf0\xff\xfa\x14\x15\xff\xfd\x07\xff\xfa\x14\x15\xff\xf0\
+    \xff\xfa\x14\x26\xfd\xff\xf0\xff\xfa\x14\x01\x02\x03\x04\x05\x06\x07\xff";
+
+fn streamed(mut lent: Lent, pieces: &[&'static [u8]]) -> (Lent, Vec<u8>) {
+    let mut replies = Vec::new();
+    for piece in pieces {
+        let (number, taken, written) = lent.call(Host(piece));
+        assert_eq!((number, taken), (0, piece.len()));
+        replies.extend(&lent.reply[..written]);
+        lent.reply.fill(LENT);
+        let bytes = lent.session.try_into().expect("the length stays");
+        let session = Session::from_bytes(bytes).expect("a call leaves a session");
+        lent.session = session.as_bytes().to_vec();
+    }
+    (lent, replies)
+}
+
+#[test]
+fn a_stream_may_be_cut_anywhere() {
+    let mut lent = Lent::form(3, 0);
+    lent.session[at::ON] = 0;
+    lent.attrs.fill(0);
+    lent.reply = vec![LENT; 1000];
+    let whole = streamed(lent.clone(), &[STREAM]);
+    let session = &whole.0.session;
+    assert_eq!(session[at::ON..], [1, 1, 9, 20, 1, 2, 3, 4, 5, 6, 6]);
+    for cut in 0..STREAM.len() {
+        let pieces = [&STREAM[..cut], &STREAM[cut..]];
+        assert_eq!(streamed(lent.clone(), &pieces), whole, "cut at {cut}");
+    }
+    let bytes: Vec<_> = STREAM.chunks(1).collect();
+    assert_eq!(streamed(lent, &bytes), whole);
+}
+
+#[test]
+fn the_bytes_of_a_session() {
+    for reader in 0..=255 {
+        for place in 0..SESSION_LENGTH {
+            for byte in 0..=255 {
+                let mut bytes = [8, 2, 3, 0, 1, 0, reader, 0, 1, 2, 3, 4, 5, 6, 6];
+                bytes[place] = byte;
+                let [.., on, suppressed, reader, option, _, _, _, _, _, _, _] = bytes;
+                let flags = on <= 1 && suppressed <= 1;
+                let is_session = flags && (reader < 8 && option == 0 || [8, 9].contains(&reader));
+                let session = Session::from_bytes(bytes);
+                let kept = session.as_ref().map(Session::as_bytes);
+                assert_eq!(kept, is_session.then_some(&bytes), "{bytes:?}");
+            }
+        }
+    }
+}
+
+#[test]
+fn a_session_is_read_and_written_as_the_same_bytes() {
+    for reader in 0..=9 {
+        for flags in 0..4 {
+            for count in 0..=6 {
+                let (on, suppressed) = (flags & 1, flags >> 1);
+                let option = if reader < 8 { 0 } else { 200 + count };
+                let session = [
+                    8, 2, 7, 1, on, suppressed, reader, option, 9, 8, 255, 0, 5, 4, count,
+                ];
+                let mut lent = Lent::form(0, 0);
+                lent.session.copy_from_slice(&session);
+                let before = lent.clone();
+                assert_eq!(lent.call(Host(b"")), (0, 0, 0));
+                assert_eq!(lent, before);
+            }
+        }
+    }
+}
+
+#[test]
+fn the_parts_of_a_session() {
+    let bytes = [132, 64, 131, 63, 1, 0, 8, 24, 1, 2, 3, 4, 5, 6, 3];
+    let session = Session::from_bytes(bytes).expect("a session");
+    assert_eq!((session.width(), session.height()), (132, 64));
+    assert_eq!(session.cursor(), Cursor { x: 131, y: 63 });
+    assert_eq!((session.is_on(), session.is_suppressed()), (true, false));
+    assert_eq!(session.reader(), Reader::Sub(24));
+    assert_eq!(session.held(), [1, 2, 3, 4, 5, 6]);
+    assert_eq!(session.held_count(), 3);
+}
+
+/// What the host sends, and where the reader stands then.
+const READERS: &[(&[u8], Reader)] = &[
+    (b"A", Reader::Data),
+    (b"\xff", Reader::Iac),
+    (b"\xff\xfb", Reader::Will),
+    (b"\xff\xfc", Reader::Wont),
+    (b"\xff\xfd", Reader::Do),
+    (b"\xff\xfe", Reader::Dont),
+    (b"\xff\xfa", Reader::Sb),
+    (b"\xff\xfa\xff", Reader::SbIac),
+    (b"\xff\xfa\x18", Reader::Sub(24)),
+    (b"\xff\xfa\x18\xff", Reader::SubIac(24)),
+];
+
+#[test]
+fn where_the_reader_stands() {
+    for &(input, reader) in READERS {
+        let (mut chars, mut attrs, mut reply) = ([0; 1], [0; 1], [0; reply_room(1, 1)]);
+        let mut session = terminal::open(1, 1, &mut chars, &mut attrs).expect("a size");
+        let counts = session.host_bytes(input, &mut chars, &mut attrs, &mut reply);
+        assert_eq!(counts.map(|counts| counts.taken), Ok(input.len()));
+        assert_eq!(session.reader(), reader, "{input:x?}");
+    }
+}
+
+#[test]
+fn refusals_have_their_numbers() {
+    for number in 0..=255 {
+        let refusal = Refusal::of_number(number);
+        let expected = (1..=9).contains(&number).then_some(number);
+        assert_eq!(refusal.map(Refusal::number), expected);
+    }
+    let said = Refusal::Guarded.to_string();
+    assert_eq!(said, "refusal 6: the cell is guarded");
+}

@@ -1,0 +1,175 @@
+/* det.h: a form terminal for Telnet's Data Entry Terminal option (option 20).
+ *
+ * A host paints a form on a screen of M columns by N lines, protects its labels, and reads back
+ * what an operator types. The library is the terminal: it takes the host's bytes and the operator's
+ * keys, changes the screen, and writes the bytes that are to go back. It opens no connection, draws
+ * nothing, allocates nothing and keeps nothing from one call to the next: all that a terminal is
+ * lies in the caller's memory. Calls on memory that is apart may run at the same time.
+ *
+ * For x86-64 Linux. 'rt staticlib det_abi' makes target/staticlib/libdet_abi.a; then
+ *
+ *     cc -Iinclude program.c target/staticlib/libdet_abi.a
+ *
+ * builds a program; examples/form.c is one.
+ *
+ *
+ * Memory
+ *
+ * What a call needs is lent by its caller for that call, as a pointer and a length:
+ *
+ *   chars    M * N bytes: the characters of the screen, each 32 to 126. Column x of line y, both
+ *            counted from 0, is byte y * M + x.
+ *   attrs    M * N bytes: the attributes of those cells, in the same order (DET_PROTECTION).
+ *   session  DET_SESSION_LENGTH bytes: everything else about the terminal (DET_AT_...).
+ *   input    bytes from the host, any number of them.
+ *   reply    at least DET_REPLY_ROOM(M, N) bytes, for the bytes that are to go to the host. They
+ *            are written from its start on; the bytes after them stay as they were.
+ *   taken, written
+ *            places for two counts, which every call sets: how many bytes of the input, or keys,
+ *            were taken, and how many bytes of the reply were written.
+ *
+ * Between calls the caller keeps chars, attrs and session. It may copy, store and read them; what
+ * it changes in them is checked by the next call.
+ *
+ * Every pointer must be valid for its length, and not null even where the length is 0; taken and
+ * written must point to a size_t each. No two things given to one call may overlap. That is all
+ * that is asked: whatever the lengths, the contents and the numbers are, the answer is stated
+ * below.
+ *
+ *
+ * Answers
+ *
+ * Each function returns DET_DONE or the number of a refusal (DET_SIZE and so on). Where more than
+ * one refusal holds, the first in this order is returned:
+ *
+ *   255, 1, 2, 3, 4, 5, 9, 8, 6, 7
+ *
+ * A refused call changes nothing: not the session, not one byte of a buffer; it sets both counts
+ * to 0. (det_open, which makes a session, says below what it leaves.)
+ */
+#ifndef DET_H
+#define DET_H
+
+#include <stddef.h>
+#include <stdint.h>
+
+#ifdef __cplusplus
+extern "C" {
+#endif
+
+/* The largest screen, and the lengths of a session and of the shortest reply buffer for a screen of
+ * m columns by n lines: the longest reply that one byte or key can draw fits in it. */
+#define DET_WIDTH_MOST 132
+#define DET_HEIGHT_MOST 64
+#define DET_SESSION_LENGTH 15
+#define DET_REPLY_ROOM(m, n) ((size_t)7 * (m) * (n) + 2)
+
+/* What a call answers. */
+enum {
+    DET_DONE = 0,        /* the call was done */
+    DET_SIZE = 1,        /* M is not 1 to 132, or N is not 1 to 64 */
+    DET_LENGTH = 2,      /* chars or attrs is not M * N bytes long */
+    DET_CHARACTER = 3,   /* a byte of chars is not 32 to 126; never of det_open */
+    DET_RANGE = 4,       /* the session's cursor is off the screen, or its count of held bytes is
+                            above 6; never of det_open */
+    DET_ROOM = 5,        /* reply is shorter than DET_REPLY_ROOM(M, N); never of det_open */
+    DET_GUARDED = 6,     /* a character or the delete key, and the cell is guarded */
+    DET_CLASS = 7,       /* a character that the cell's class does not take */
+    DET_OFF = 8,         /* the send key or a function key, and option 20 is off */
+    DET_NO_MEANING = 9,  /* a key that means nothing */
+    DET_NO_SESSION = 255 /* session is not DET_SESSION_LENGTH bytes long, or its bytes are no
+                            session (below) */
+};
+
+/* The session, byte by byte. Bytes are no session where DET_AT_ON or DET_AT_SUPPRESSED is above 1,
+ * DET_AT_READER is above DET_READER_SUB_IAC, or DET_AT_OPTION is not 0 while DET_AT_READER is below
+ * DET_READER_SUB. */
+enum {
+    DET_AT_WIDTH = 0,      /* M */
+    DET_AT_HEIGHT = 1,     /* N */
+    DET_AT_X = 2,          /* the cursor's column, from 0 */
+    DET_AT_Y = 3,          /* the cursor's line, from 0 */
+    DET_AT_ON = 4,         /* 1 while option 20 is on */
+    DET_AT_SUPPRESSED = 5, /* 1 while protection is suppressed */
+    DET_AT_READER = 6,     /* where the reader of Telnet bytes stands: DET_READER_... */
+    DET_AT_OPTION = 7,     /* the option of the subnegotiation that is being read, else 0 */
+    DET_AT_HELD = 8,       /* six bytes: what that subnegotiation has had after its option byte */
+    DET_AT_HELD_COUNT = 14 /* how many of the six; it stops at 6, though more bytes may come */
+};
+
+/* Where the reader stands. */
+enum {
+    DET_READER_DATA = 0,   /* outside any command */
+    DET_READER_IAC = 1,    /* after IAC */
+    DET_READER_WILL = 2,   /* after IAC WILL, and so on: the option byte comes next */
+    DET_READER_WONT = 3,
+    DET_READER_DO = 4,
+    DET_READER_DONT = 5,
+    DET_READER_SB = 6,     /* after IAC SB: the option byte comes next */
+    DET_READER_SB_IAC = 7, /* after IAC SB IAC */
+    DET_READER_SUB = 8,    /* in a subnegotiation, after its option byte */
+    DET_READER_SUB_IAC = 9 /* there, after IAC */
+};
+
+/* The two bits of an attribute byte that say what may be typed into the cell. A protected cell is
+ * guarded unless protection is suppressed: no key and no text from the host changes a guarded
+ * cell's character, and of the host's commands only ERASE SCREEN (29) does. */
+#define DET_PROTECTION 0x18
+enum {
+    DET_ANY = 0x00,        /* every character */
+    DET_PROTECTED = 0x08,  /* none */
+    DET_ALPHABETIC = 0x10, /* A to Z, a to z and space */
+    DET_NUMERIC = 0x18     /* 0 to 9, + - . and space */
+};
+
+/* The keys. Besides these, 32 to 126 are the characters that are typed; no other number means
+ * anything, however large. */
+enum {
+    DET_KEY_BACK = 8,    /* to the previous cell that is not guarded */
+    DET_KEY_TAB = 9,     /* to the start of the next unprotected field; after the last, the first */
+    DET_KEY_SEND = 13,   /* sends all unprotected fields */
+    DET_KEY_DELETE = 127 /* deletes the character at the cursor, within its field and line */
+};
+#define DET_KEY_FUNCTION(k) (127 + (k)) /* sends the number k, which is 1 to 16 */
+
+/* Opens a terminal of width columns by height lines: spaces in chars, zeros in attrs and, whatever
+ * was in its place, a new session: cursor at column 0 of line 0, option 20 off, protection in
+ * effect, nothing half read.
+ *
+ * Refused with 1 or 2 it leaves chars and attrs alone and writes a session of 0 by 0, all zeros,
+ * which the other two calls then refuse with 1. With 255, where the place for the session has
+ * another length, it writes nothing at all. */
+uint8_t det_open(size_t width, size_t height,
+                 uint8_t *chars, size_t chars_len,
+                 uint8_t *attrs, size_t attrs_len,
+                 uint8_t *session, size_t session_len);
+
+/* Takes bytes from the host, from the front of the input, as long as there are some and the reply
+ * has DET_REPLY_ROOM(M, N) bytes left. It changes the session, chars and attrs as they say, and
+ * writes what they draw into reply. Commands may be cut anywhere between two calls.
+ *
+ * *taken may be less than input_len: send the *written bytes of the reply to the host, then call
+ * again with the rest of the input. A call that is done takes at least one byte if it is given one,
+ * so this comes to an end. Refusals: 255, 1, 2, 3, 4, 5. */
+uint8_t det_host(uint8_t *session, size_t session_len,
+                 const uint8_t *input, size_t input_len,
+                 uint8_t *chars, size_t chars_len,
+                 uint8_t *attrs, size_t attrs_len,
+                 uint8_t *reply, size_t reply_len,
+                 size_t *taken, size_t *written);
+
+/* Takes one key of the operator; *taken is then 1. It changes the session and chars as the key
+ * says, never attrs, and writes what is to be sent into reply. What is half read from the host
+ * stays so. Refusals: any of the numbers. */
+uint8_t det_key(uint8_t *session, size_t session_len,
+                uint32_t key,
+                uint8_t *chars, size_t chars_len,
+                const uint8_t *attrs, size_t attrs_len,
+                uint8_t *reply, size_t reply_len,
+                size_t *taken, size_t *written);
+
+#ifdef __cplusplus
+}
+#endif
+
+#endif

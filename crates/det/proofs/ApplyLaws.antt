@@ -1,5 +1,5 @@
 -- Laws of changes: REPEAT is done one character at a time, and every other change at once.
-use mathlib.Core.Path.{_≡_, refl, sym, ap}
+use mathlib.Core.Path.{_≡_, refl, sym}
 use mathlib.Core.Logic.{⊎-elim}
 use mathlib.Core.List.{List, [], _∷_, _++_}
 use Prim.Native.Nat.{ℕ, zero, suc, _-_, _≤_, _<_}
@@ -18,20 +18,19 @@ use Rattle.rules.proofs.Characters.{changed-append}
 use Rattle.det.proofs.decision.Change.{the-type}
 use Rattle.det.specs.declared.frame.Frame.{Frame}
 use Rattle.det.specs.declared.decision.Change.{Change}
-use Rattle.det.specs.declared.decision.Change.the-variants.{Nothing, Put, Erase, Insert, Delete, Repeat}
+use Rattle.det.specs.declared.decision.Change.the-variants.{Nothing, Put, Erase, Shift, Repeat}
 use Rattle.det.specs.Frame.{sessionOf, viewOf}
 use Rattle.det.specs.Decision.{changeOf, editsOf, Once}
 use Rattle.det.specs.Apply.{Changes}
 
 -- what the other arm of a match on Repeat knows
-pub not-repeat : (change : Change) → OneOf (0 ∷ 1 ∷ 2 ∷ 3 ∷ 4 ∷ []) (tagOf the-type change) → Once change
+pub not-repeat : (change : Change) → OneOf (0 ∷ 1 ∷ 2 ∷ 3 ∷ []) (tagOf the-type change) → Once change
 not-repeat Nothing h v = refl
 not-repeat (Put cell c) h v = refl
 not-repeat (Erase suppressed from end) h v = refl
-not-repeat (Insert from end) h v = refl
-not-repeat (Delete from end) h v = refl
+not-repeat (Shift s from end) h v = refl
 not-repeat (Repeat n c) h v =
-    absurd (⊎-elim (λ p. omega arith) (⊎-elim (λ p. omega arith) (⊎-elim (λ p. omega arith) (⊎-elim (λ p. omega arith) (λ p. omega arith)))) h)
+    absurd (⊎-elim (λ p. omega arith) (⊎-elim (λ p. omega arith) (⊎-elim (λ p. omega arith) (λ p. omega arith))) h)
 
 -- a change that is done at once leaves the frame as it is
 pub changes-once : (change : Change) {f : Frame} {attrs chars chars′ : List ℕ} → Once change → chars′ ≡ changedAll attrs (editsOf change) chars

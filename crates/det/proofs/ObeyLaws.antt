@@ -6,6 +6,7 @@ use Prim.Native.Nat.{ℕ, zero, suc, _*_, _≤_, _<_}
 use native.Mathlib.Omega.{arith}
 use lib.ListN.{length, replicate, length-replicate, getD-replicate}
 use Rattle.telnet.specs.declared.Phase.{Phase}
+use Rattle.screen.specs.declared.edit.Shift.{Shift}
 use Rattle.screen.specs.Words.{if_then_else_}
 use Rattle.screen.specs.Cells.{cellOf, placeOf, lineStart, lineEnd}
 use Rattle.screen.specs.Attributes.{guardedAt}
@@ -20,20 +21,18 @@ use Rattle.rules.specs.declared.Command.{Command}
 use Rattle.rules.specs.declared.Command.the-variants.{Facilities, MoveCursor, Step, Home, CharInsert, CharDelete, ReadCursor, ReverseTab, Transmit, Erase, FormatData, Repeat, SuppressProtection, Error}
 use Rattle.rules.specs.declared.Fault.{Fault}
 use Rattle.rules.specs.Session.{View, cursorCell, withAttrs}
-use Rattle.rules.specs.Effect.{Effect, Part, changing, saying}
-use Rattle.rules.specs.Effect as effect
+use Rattle.rules.specs.Effect.{Effect, Part, saying}
 use Rattle.rules.specs.Telnet.{cursorGuarded, hostCharacter, hostCharacters}
 use Rattle.rules.specs.Command.{valueFault, faultOf}
 use Rattle.rules.specs.Subcommand.{preface, cursorSpanEnd, shifting, judged}
 use Rattle.det.specs.declared.frame.Frame.{Frame}
-use Rattle.det.specs.declared.decision.Change.{Change}
 use Rattle.det.specs.declared.decision.Change.the-variants.{Nothing}
 use Rattle.det.specs.declared.decision.Change.the-variants as change
 use Rattle.det.specs.declared.decision.Say.the-variants.{Silent}
 use Rattle.det.specs.declared.decision.Format.the-variants.{Keep}
 use Rattle.det.specs.declared.decision.Decision.{Decision}
 use Rattle.det.specs.Frame.{OnScreen, Fits, viewOf, bareView}
-use Rattle.det.specs.Decision.{Decides, decision, changeOf, shown, prefaceOf}
+use Rattle.det.specs.Decision.{Decides, decision, shown, prefaceOf}
 use Rattle.det.proofs.DecideLaws.{recast, cursor-lt}
 
 -- ---- what lies on the screen
@@ -78,14 +77,13 @@ all-zeros attrs =
 
 -- 15 and 16: what a shift does on a guarded cell, and on another
 module _ {f : Frame} {attrs : List ℕ} {guarded : Bool} (e : guarded ≡ guardedAt (f .suppressed) attrs (cellOf (f .width) (f .cursor)))
-    (shift : ℕ → ℕ → ℕ → effect.Change) where
-  pub shift-not : guarded ≡ true → Decides f attrs (decision f Nothing Silent Keep) (λ v. shifting v shift)
+    (s : Shift) where
+  pub shift-not : guarded ≡ true → Decides f attrs (decision f Nothing Silent Keep) (λ v. shifting v s)
   shift-not t = record { meaning = λ phase held. rw (sym e ∙ t); sendable = tt }
 
-  pub shift-span : (change : ℕ → ℕ → Change) → ((v : View) (from end : ℕ) → changeOf v (change from end) ≡ changing v (shift from end 1 ∷ []))
-      → guarded ≡ false
-      → Decides f attrs (decision f (change (cellOf (f .width) (f .cursor)) (cursorSpanEnd (bareView f attrs))) Silent Keep) (λ v. shifting v shift)
-  shift-span change same t = record { meaning = λ phase held. rw (sym e ∙ t, same); sendable = tt }
+  pub shift-span : guarded ≡ false
+      → Decides f attrs (decision f (change.Shift s (cellOf (f .width) (f .cursor)) (cursorSpanEnd (bareView f attrs))) Silent Keep) (λ v. shifting v s)
+  shift-span t = record { meaning = λ phase held. rw (sym e ∙ t); sendable = tt }
 
 -- 37: a repeated character touches no attribute byte, and says nothing
 repeat-attrs : (n : ℕ) (v : View) (c : ℕ) → (hostCharacters n v c) .view .attrs ≡ v .attrs

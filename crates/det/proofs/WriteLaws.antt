@@ -22,7 +22,7 @@ use Rattle.rules.specs.Session.{View, cursorCell, withCursor}
 use Rattle.rules.specs.Effect.{Effect, put, changed, changedAll, changing, quiet}
 use Rattle.rules.specs.Telnet.{cursorGuarded, nextPlace, hostCharacter}
 use Rattle.rules.specs.Refusal.{verdict}
-use Rattle.rules.specs.Key.{keyTests, hasMeaning, detAllows, guardAllows, classAllows, pressed}
+use Rattle.rules.specs.Key.{keyTests, hasMeaning, detAllows, guardAllows, classAllows}
 use Rattle.det.specs.declared.frame.Frame.{Frame}
 use Rattle.det.specs.declared.text.Writer.{Writer}
 use Rattle.det.specs.declared.text.Writer.the-variants.{Host, Operator}

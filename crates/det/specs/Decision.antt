@@ -8,13 +8,13 @@ use Rattle.screen.specs.Edits.{formatted}
 use Rattle.screen.specs.declared.cell.Place.{Place}
 use Rattle.rules.specs.declared.Held.{Held}
 use Rattle.rules.specs.Session.{View, withAttrs}
-use Rattle.rules.specs.Effect.{Effect, Part, put, erase, insert, delete, text, message, changing, quiet}
+use Rattle.rules.specs.Effect.{Effect, Part, put, erase, shift, text, message, changing, quiet}
 use Rattle.rules.specs.Effect as effect
 use Rattle.rules.specs.Telnet.{answer, hostCharacters}
 use Rattle.rules.specs.Subcommand.{fieldTexts, withoutFirst}
 use Rattle.det.specs.declared.frame.Frame.{Frame}
 use Rattle.det.specs.declared.decision.Change.{Change}
-use Rattle.det.specs.declared.decision.Change.the-variants.{Nothing, Put, Erase, Insert, Delete, Repeat}
+use Rattle.det.specs.declared.decision.Change.the-variants.{Nothing, Put, Erase, Shift, Repeat}
 use Rattle.det.specs.declared.decision.Say.{Say}
 use Rattle.det.specs.declared.decision.Say.the-variants.{Silent, Negotiation, Two, Three, Preface, Text, Fields}
 use Rattle.det.specs.declared.decision.Format.{Format}
@@ -30,8 +30,7 @@ abbrev pub changeOf : View → Change → Effect
 changeOf v Nothing = quiet v
 changeOf v (Put cell c) = changing v (put cell c ∷ [])
 changeOf v (Erase suppressed from end) = changing v (erase suppressed from end ∷ [])
-changeOf v (Insert from end) = changing v (insert from end 1 ∷ [])
-changeOf v (Delete from end) = changing v (delete from end 1 ∷ [])
+changeOf v (Shift s from end) = changing v (shift s from end 1 ∷ [])
 changeOf v (Repeat n c) = hostCharacters n v c
 
 -- the changes that are settled without the view: REPEAT has none
@@ -39,8 +38,7 @@ abbrev pub editsOf : Change → List effect.Change
 editsOf Nothing = []
 editsOf (Put cell c) = put cell c ∷ []
 editsOf (Erase suppressed from end) = erase suppressed from end ∷ []
-editsOf (Insert from end) = insert from end 1 ∷ []
-editsOf (Delete from end) = delete from end 1 ∷ []
+editsOf (Shift s from end) = shift s from end 1 ∷ []
 editsOf (Repeat n c) = []
 
 -- not REPEAT: these are all it does

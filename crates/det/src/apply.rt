@@ -14,10 +14,9 @@ use crate::decision::Decision;
 use crate::decision::Format;
 use crate::frame::Frame;
 use crate::reply::write_reply;
-use screen::edit::delete;
 use screen::edit::erase;
 use screen::edit::format;
-use screen::edit::insert;
+use screen::edit::shift_range;
 
 pub struct Applied {
     pub frame: Frame,
@@ -36,8 +35,7 @@ fn change_cells(change: Change, chars: &mut [u8], attrs: &[u8])
             from,
             end,
         } => erase(chars, attrs, from, end, suppressed),
-        Change::Insert { from, end } => insert(chars, from, end, 1),
-        Change::Delete { from, end } => delete(chars, from, end, 1),
+        Change::Shift { shift, from, end } => shift_range(chars, shift, from, end, 1),
         Change::Repeat { count: _, byte: _ } => {}
     }
 }

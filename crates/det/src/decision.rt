@@ -3,6 +3,7 @@ ghost use mathlib.Core.Path.{_≡_};
 ghost use Rattle.det.specs.Decision.{decision};
 use crate::frame::Frame;
 use screen::cell::Place;
+use screen::edit::Shift;
 use telnet::Verb;
 
 // What becomes of the characters.
@@ -18,11 +19,9 @@ pub enum Change {
         from: usize,
         end: usize,
     },
-    Insert {
-        from: usize,
-        end: usize,
-    },
-    Delete {
+    // by one cell
+    Shift {
+        shift: Shift,
         from: usize,
         end: usize,
     },

@@ -3,7 +3,6 @@ ghost use mathlib.Core.Path.{_≡_};
 ghost use mathlib.Core.List.{List};
 ghost use Prim.Native.Nat.{ℕ};
 ghost use lib.ListN.{length};
-ghost use Rattle.rules.specs.Effect.{insert, delete};
 ghost use Rattle.rules.specs.Subcommand.{erasure, cursorSpanEnd, shifting};
 ghost use Rattle.det.specs.Frame.{Fits, bareView};
 ghost use Rattle.det.specs.Decision.{Decides, decision};
@@ -21,6 +20,7 @@ use crate::frame::cursor_guarded;
 use rules::Area;
 use screen::cell::line_end;
 use screen::cell::line_start;
+use screen::edit::Shift;
 use screen::field::field_end;
 use screen::field::field_start;
 use screen::field::span_end;
@@ -105,9 +105,9 @@ fn cursor_span_end(frame: Frame, attrs: &[u8]) -> usize
     )
 }
 
-// 15: nothing on a guarded cell.
-pub(crate) fn char_insert(frame: Frame, attrs: &[u8]) -> Decision
-    ensures { λ r. ⌜ Decides frame (now (attrs .entry)) r (λ v. shifting v insert) ⌝ }
+// 15, 16: nothing on a guarded cell.
+pub(crate) fn char_shift(frame: Frame, attrs: &[u8], shift: Shift) -> Decision
+    ensures { λ r. ⌜ Decides frame (now (attrs .entry)) r (λ v. shifting v shift) ⌝ }
 {
     let guarded = cursor_guarded(frame, attrs);
     if guarded {
@@ -115,24 +115,8 @@ pub(crate) fn char_insert(frame: Frame, attrs: &[u8]) -> Decision
     }
     changing(
         frame,
-        Change::Insert {
-            from: cursor_cell(frame),
-            end: cursor_span_end(frame, attrs),
-        },
-    )
-}
-
-// 16: nothing on a guarded cell.
-pub(crate) fn char_delete(frame: Frame, attrs: &[u8]) -> Decision
-    ensures { λ r. ⌜ Decides frame (now (attrs .entry)) r (λ v. shifting v delete) ⌝ }
-{
-    let guarded = cursor_guarded(frame, attrs);
-    if guarded {
-        return quiet(frame);
-    }
-    changing(
-        frame,
-        Change::Delete {
+        Change::Shift {
+            shift: shift,
             from: cursor_cell(frame),
             end: cursor_span_end(frame, attrs),
         },

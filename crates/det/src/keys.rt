@@ -13,7 +13,7 @@ use crate::decision::Say;
 use crate::decision::changing;
 use crate::decision::quiet;
 use crate::decision::saying;
-use crate::edit::char_delete;
+use crate::edit::char_shift;
 use crate::frame::Frame;
 use crate::frame::cursor_cell;
 use crate::frame::cursor_guarded;
@@ -26,6 +26,7 @@ use crate::transmit::transmit;
 use rules::Area;
 use rules::Key;
 use rules::Refusal;
+use screen::edit::Shift;
 use screen::scan::Target;
 use screen::scan::first;
 use screen::scan::last;
@@ -156,7 +157,7 @@ pub(crate) fn press(frame: Frame, attrs: &[u8], key: Key) -> Decision
         Key::Back => go_back(frame, attrs),
         Key::Tab => tab(frame, attrs),
         Key::Send => transmit(frame, attrs, Area::Unprotected),
-        Key::Delete => char_delete(frame, attrs),
+        Key::Delete => char_shift(frame, attrs, Shift::Deletion),
         Key::Function(number) => saying(
             frame,
             Say::Two {

@@ -10,6 +10,7 @@ mod frame;
 mod held;
 mod keys;
 mod negotiate;
+pub mod number;
 mod obey;
 pub mod operation;
 mod refuse;

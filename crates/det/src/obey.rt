@@ -21,8 +21,7 @@ use crate::decision::Say;
 use crate::decision::changing;
 use crate::decision::quiet;
 use crate::decision::saying;
-use crate::edit::char_delete;
-use crate::edit::char_insert;
+use crate::edit::char_shift;
 use crate::edit::erase;
 use crate::frame::Frame;
 use crate::frame::cursor_cell;
@@ -37,6 +36,7 @@ use rules::Command;
 use rules::Facility;
 use rules::Fault;
 use rules::Held;
+use screen::edit::Shift;
 
 // 1 to 4: the terminal's own map.
 fn facilities(frame: Frame, facility: Facility) -> Decision
@@ -126,8 +126,8 @@ fn obey(frame: Frame, attrs: &[u8], command: Command, held: Held) -> Decision
         Command::MoveCursor => quiet(limited(frame, held)),
         Command::Step(direction) => quiet(moved(frame, step(frame, direction))),
         Command::Home => quiet(home(frame, attrs)),
-        Command::CharInsert => char_insert(frame, attrs),
-        Command::CharDelete => char_delete(frame, attrs),
+        Command::CharInsert => char_shift(frame, attrs, Shift::Insertion),
+        Command::CharDelete => char_shift(frame, attrs, Shift::Deletion),
         Command::ReadCursor => read_cursor(frame),
         Command::ReverseTab => quiet(reverse_tab(frame, attrs)),
         Command::Transmit(area) => transmit(frame, attrs, area),

@@ -22,8 +22,6 @@ use crate::data::take_run;
 use crate::decision::Decision;
 use crate::decision::quiet;
 use crate::frame::Frame;
-use crate::frame::frame_of;
-use crate::frame::session_of;
 use crate::held::hold;
 use crate::held::hold_run;
 use crate::held::none;

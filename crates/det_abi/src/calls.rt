@@ -10,31 +10,13 @@ use crate::layout::SESSION_LENGTH;
 use crate::layout::decode;
 use crate::layout::encode;
 use crate::layout::is_session;
+use det::number::number_of;
 use det::operation::host_bytes;
 use det::operation::key;
 use det::operation::open;
 use rules::Answer;
-use rules::Refusal;
 
 const NO_SESSION: u8 = 255;
-
-// The table's number of a refusal.
-fn number_of(refusal: Refusal) -> u8
-    ensures { λ r. ⌜ r ≡ numberOf refusal ⌝ }
-{
-    match refusal {
-        Refusal::Taken => 0,
-        Refusal::Size => 1,
-        Refusal::BufferLength => 2,
-        Refusal::BadCharacter => 3,
-        Refusal::BadSession => 4,
-        Refusal::ReplyRoom => 5,
-        Refusal::Guarded => 6,
-        Refusal::WrongClass => 7,
-        Refusal::DetOff => 8,
-        Refusal::NoMeaning => 9,
-    }
-}
 
 // Writes the answer's session, and returns its number.
 fn tell(answer: Answer, session: &mut [u8]) -> u8

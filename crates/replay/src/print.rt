@@ -4,8 +4,8 @@ use crate::number::least;
 use crate::order::Order;
 use crate::sink;
 use crate::sink::Sink;
+use det::number::number_of;
 use rules::Answer;
-use rules::Refusal;
 use rules::Session;
 use telnet::Phase;
 use telnet::Verb;
@@ -35,26 +35,10 @@ fn bytes(out: &mut [u8], sink: Sink, buffer: &[u8], length: usize) -> Sink {
     sink::bytes(out, spaced, &buffer[0..n])
 }
 
-// The refusal's number, 0 where the call is done.
-fn refusal_number(refusal: Refusal) -> u64 {
-    match refusal {
-        Refusal::Taken => 0,
-        Refusal::Size => 1,
-        Refusal::BufferLength => 2,
-        Refusal::BadCharacter => 3,
-        Refusal::BadSession => 4,
-        Refusal::ReplyRoom => 5,
-        Refusal::Guarded => 6,
-        Refusal::WrongClass => 7,
-        Refusal::DetOff => 8,
-        Refusal::NoMeaning => 9,
-    }
-}
-
 // The answer's three numbers.
 fn numbers(out: &mut [u8], sink: Sink, answer: Answer) -> Sink {
     let refusal = answer.refusal;
-    let code = sink::number(out, sink, refusal_number(refusal));
+    let code = sink::number(out, sink, number_of(refusal) as u64);
     let taken = number(out, code, answer.taken);
     number(out, taken, answer.written)
 }

@@ -7,11 +7,13 @@ use lib.Dec.{ltb}
 use lib.ListN.{length, getD, set, take, drop, length-set, take-append-drop}
 use Rattle.screen.specs.Words.{if_then_else_, inRange, tabulate}
 use Rattle.screen.specs.Attributes.{guardedAt}
-use Rattle.screen.specs.Edits.{lies, deleted, inserted, onPart, erased}
+use Rattle.screen.specs.declared.edit.Shift.{Shift}
+use Rattle.screen.specs.declared.edit.Shift.the-variants.{Insertion, Deletion}
+use Rattle.screen.specs.Edits.{lies, deleted, inserted, shifted, onPart, erased}
 use Rattle.screen.proofs.WordLaws.{either, and-left, and-right, both}
-use Rattle.screen.proofs.EditLaws.{deleted-length, inserted-length, erased-length, onPart-length}
+use Rattle.screen.proofs.EditLaws.{shifted-length, erased-length, onPart-length}
 use Rattle.rules.specs.Session.{printable, allPrintable}
-use Rattle.rules.specs.Effect.{Change, put, erase, insert, delete, changed, changedAll}
+use Rattle.rules.specs.Effect.{Change, put, erase, shift, changed, changedAll}
 -- the worked cases are checked first, so that a wrong rule is refused there
 use Rattle.rules.proofs.Shut.{shut-holds}
 
@@ -65,14 +67,19 @@ printable-part from end edit keeps cs e =
     either (λ l. allPrintable l ≡ true) (lies from end cs)
     (λ t. printable-append _ _ ∙ both _ _ (outer .0) (printable-append _ _ ∙ both _ _ mid (printable-parts end cs e .1))) (λ t. e)
 
+-- a part that is shifted
+printable-shifted : (s : Shift) (by : ℕ) (part : List ℕ) → allPrintable part ≡ true → allPrintable (shifted s by part) ≡ true
+unfolding shifted inserted deleted
+printable-shifted Insertion by part e = printable-tabulate _ 0 _ (λ i. space-or (ltb i by) part e (i - by))
+printable-shifted Deletion by part e = printable-tabulate _ 0 _ (λ i. printable-at part e (i + by))
+
 -- ---- changes
 
 -- a character that a change puts is printable
 abbrev pub Fine : Change → Type 0
 Fine (put cell c) = printable c ≡ true
 Fine (erase suppressed from end) = Unit {0}
-Fine (insert from end by) = Unit {0}
-Fine (delete from end by) = Unit {0}
+Fine (shift s from end by) = Unit {0}
 
 module _ (attrs chars : List ℕ) where
   -- a change keeps the number of characters
@@ -80,18 +87,14 @@ module _ (attrs chars : List ℕ) where
   unfolding changed
   changed-length (put cell c) = length-set chars cell c
   changed-length (erase suppressed from end) = erased-length suppressed attrs from end chars
-  changed-length (insert from end by) = onPart-length from end (inserted by) (inserted-length by) chars
-  changed-length (delete from end by) = onPart-length from end (deleted by) (deleted-length by) chars
+  changed-length (shift s from end by) = onPart-length from end (shifted s by) (shifted-length s by) chars
 
   changed-printable : (c : Change) → Fine c → allPrintable chars ≡ true → allPrintable (changed attrs c chars) ≡ true
-  unfolding changed erased inserted deleted
+  unfolding changed erased
   changed-printable (put cell c) f e = printable-set chars cell c e f
   changed-printable (erase suppressed from end) f e =
       printable-tabulate _ 0 _ (λ i. space-or (inRange from end i && not (guardedAt suppressed attrs i)) chars e i)
-  changed-printable (insert from end by) f e =
-      printable-part from end (inserted by) (λ p q. printable-tabulate _ 0 _ (λ i. space-or (ltb i by) p q (i - by))) chars e
-  changed-printable (delete from end by) f e =
-      printable-part from end (deleted by) (λ p q. printable-tabulate _ 0 _ (λ i. printable-at p q (i + by))) chars e
+  changed-printable (shift s from end by) f e = printable-part from end (shifted s by) (printable-shifted s by) chars e
 
   -- and keeps them printable
   pub text-changed : {cells : ℕ} (c : Change) → Fine c → Text cells chars → Text cells (changed attrs c chars)

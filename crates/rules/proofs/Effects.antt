@@ -11,6 +11,8 @@ use Rattle.telnet.specs.declared.Verb.the-variants.{Will, Wont, Do, Dont}
 use Rattle.telnet.specs.declared.Event.{Event}
 use Rattle.telnet.specs.declared.Event.the-variants.{Nothing, Data, Negotiation, Begin, Sub, End, EndBare, Lost}
 use Rattle.telnet.specs.Writer.{doubled, subnegotiation, negotiation}
+use Rattle.screen.specs.declared.edit.Shift.{Shift}
+use Rattle.screen.specs.declared.edit.Shift.the-variants.{Insertion, Deletion}
 use Rattle.screen.specs.declared.cell.Place.{Place}
 use Rattle.screen.specs.Words.{if_then_else_, between}
 use Rattle.screen.specs.Cells.{placeOf}
@@ -32,7 +34,7 @@ use Rattle.rules.specs.declared.Fault.the-variants.{NoFault, UnknownCode
 use Rattle.rules.specs.declared.Key.{Key}
 use Rattle.rules.specs.declared.Key.the-variants.{Typed, Back, Tab, Send, Delete, Function, Meaningless}
 use Rattle.rules.specs.Session.{View, printable, noneHeld}
-use Rattle.rules.specs.Effect.{Effect, Change, Part, bytes, text, insert, delete, changedAll, message, changing, saying, quiet}
+use Rattle.rules.specs.Effect.{Effect, Change, Part, bytes, text, changedAll, message, changing, saying, quiet}
 use Rattle.rules.specs.Telnet.{cursorGuarded, negotiated, hostCharacter, hostCharacters, hostData}
 use Rattle.rules.specs.Command.{parameter, valueFault, faultOf}
 use Rattle.rules.specs.Subcommand.{preface, unlessGuarded, transmitted, erasure, ownMap, shifting, suppressing, obeyed, judged, looked, subcommand}
@@ -179,8 +181,8 @@ module _ {m n : ℕ} {v : View} (k : SoundView m n v) where
   keeps-map Transmitting = tells k _ (omega arith)
   keeps-map Formatting = tells k _ (omega arith)
 
-  keeps-shift : (shift : ℕ → ℕ → ℕ → Change) → ((from end : ℕ) → Fine (shift from end 1)) → Keeps m n (shifting v shift)
-  keeps-shift shift f = either (λ cs. Keeps m n (changing v cs)) (cursorGuarded v) (λ g. quietly k) (λ g. changes k _ (f _ _))
+  keeps-shift : (s : Shift) → Keeps m n (shifting v s)
+  keeps-shift s = either (λ cs. Keeps m n (changing v cs)) (cursorGuarded v) (λ g. quietly k) (λ g. changes k _ tt)
 
   keeps-obeyed : (c : Command) (h : Held) → valueFault v c h ≡ NoFault → Keeps m n (obeyed v c h)
   unfolding obeyed valueFault
@@ -188,8 +190,8 @@ module _ {m n : ℕ} {v : View} (k : SoundView m n v) where
   keeps-obeyed MoveCursor h e = quietly (at-place k _ (limited-on k h))
   keeps-obeyed (Step d) h e = quietly (at-place k _ (stepped-on k d))
   keeps-obeyed Home h e = quietly (at-cell k _ (home-lt k))
-  keeps-obeyed CharInsert h e = keeps-shift insert (λ from end. tt)
-  keeps-obeyed CharDelete h e = keeps-shift delete (λ from end. tt)
+  keeps-obeyed CharInsert h e = keeps-shift Insertion
+  keeps-obeyed CharDelete h e = keeps-shift Deletion
   keeps-obeyed ReadCursor h e = tells k _ (omega (arith, place-long k 18 refl (v .session .cursor) (k .cursor)))
   keeps-obeyed ReverseTab h e = quietly (at-cell k _ (back-tab-lt k))
   keeps-obeyed (Transmit a) h e = keeps-transmitted a
@@ -273,7 +275,7 @@ keeps-pressed k (Typed c) p = changes (at-cell k _ (nextOpen-lt _ _ _ (cursor-lt
 keeps-pressed k Back p = quietly (at-cell k _ (previous-lt k))
 keeps-pressed k Tab p = quietly (at-cell k _ (next-field-lt k))
 keeps-pressed k Send p = keeps-transmitted k Unprotected
-keeps-pressed k Delete p = keeps-shift k delete (λ from end. tt)
+keeps-pressed k Delete p = keeps-shift k Deletion
 keeps-pressed k (Function f) p = tells k _ (function-message f)
 keeps-pressed k Meaningless p = quietly k
 

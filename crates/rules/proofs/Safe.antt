@@ -11,10 +11,10 @@ use lib.ListN.{length, getD, set, length-set, length-take, length-drop}
 use lib.Seq.{getD-set-same, getD-set-other, getD-take, getD-drop, ext-getD}
 use Rattle.screen.specs.Words.{inRange}
 use Rattle.screen.specs.Attributes.{protectedAt}
-use Rattle.screen.specs.Edits.{deleted, inserted, lies, onPart, erased, textOf}
+use Rattle.screen.specs.Edits.{shifted, lies, onPart, erased, textOf}
 use Rattle.screen.proofs.WordLaws.{true-or-false, not-both, and-right, getD-within}
-use Rattle.screen.proofs.EditLaws.{deleted-length, inserted-length, erased-length, erased-cell, onPart-none, onPart-length, onPart-before, onPart-inside, onPart-after}
-use Rattle.rules.specs.Effect.{Change, put, erase, insert, delete, changed, changedAll, Part, bytes, text, spelled, spelledAll}
+use Rattle.screen.proofs.EditLaws.{shifted-length, erased-length, erased-cell, onPart-none, onPart-length, onPart-before, onPart-inside, onPart-after}
+use Rattle.rules.specs.Effect.{Change, put, erase, shift, changed, changedAll, Part, bytes, text, spelled, spelledAll}
 use Rattle.rules.specs.Apart.{Alike, Kept}
 use Rattle.rules.proofs.All.{All}
 
@@ -25,8 +25,7 @@ Open attrs from end = (i : ℕ) → from ≤ i → i < end → protectedAt attrs
 abbrev pub SafeChange : List ℕ → Change → Type 0
 SafeChange attrs (put cell c) = protectedAt attrs cell ≡ false
 SafeChange attrs (erase suppressed from end) = suppressed ≡ false
-SafeChange attrs (insert from end by) = Open attrs from end
-SafeChange attrs (delete from end by) = Open attrs from end
+SafeChange attrs (shift s from end by) = Open attrs from end
 
 abbrev pub SafePart : List ℕ → Part → Type 0
 SafePart attrs (bytes bs) = Unit {0}
@@ -107,7 +106,7 @@ module _ (attrs : List ℕ) where
         (λ e. untouched (λ x h. rw e at (now x h) ∙ getD-within x i 32 0 h));
   }
 
-  -- both shifts: any edit of an unprotected part that keeps its length
+  -- a shift: any edit of an unprotected part that keeps its length
   safe-shift : (edit : List ℕ → List ℕ) → ((part : List ℕ) → length (edit part) ≡ length part)
       → (from end : ℕ) → Open attrs from end → SafeEdit attrs (onPart from end edit)
   safe-shift edit keeps from end o = record {
@@ -129,8 +128,7 @@ module _ (attrs : List ℕ) where
   unfolding changed
   safe-changed (put cell v) s = safe-put cell v s
   safe-changed (erase suppressed from end) s = rw s (safe-erase from end)
-  safe-changed (insert from end by) s = safe-shift (inserted by) (inserted-length by) from end s
-  safe-changed (delete from end by) s = safe-shift (deleted by) (deleted-length by) from end s
+  safe-changed (shift way from end by) s = safe-shift (shifted way by) (shifted-length way by) from end s
 
 pub still-twins : {attrs c₀ d₀ c d : List ℕ} (chs : List Change) → All (SafeChange attrs) chs → Twins attrs c₀ d₀ c d
     → Twins attrs c₀ d₀ (changedAll attrs chs c) (changedAll attrs chs d)

@@ -5,7 +5,8 @@ use mathlib.Core.List.{List, [], _∷_, _++_}
 use Prim.Native.Nat.{ℕ}
 use lib.ListN.{set}
 use Rattle.telnet.specs.Writer.{subnegotiation}
-use Rattle.screen.specs.Edits.{deleted, inserted, onPart, erased, textOf}
+use Rattle.screen.specs.declared.edit.Shift.{Shift}
+use Rattle.screen.specs.Edits.{shifted, onPart, erased, textOf}
 use Rattle.rules.specs.declared.Held.{Held}
 use Rattle.rules.specs.declared.Command.{Command}
 use Rattle.rules.specs.Session.{View}
@@ -14,13 +15,12 @@ use Rattle.rules.specs.Session.{View}
 pub data Change : Type 0 where
   put : ℕ → ℕ → Change  -- in a cell, a character
   erase : Bool → ℕ → ℕ → Change  -- in a range: spaces in cells not guarded, protection suppressed or not
-  insert delete : ℕ → ℕ → ℕ → Change  -- in a range: shift by so many cells
+  shift : Shift → ℕ → ℕ → ℕ → Change  -- in a range: insert or delete, by so many cells
 
 unfoldable pub changed : List ℕ → Change → List ℕ → List ℕ
 changed attrs (put cell c) chars = set chars cell c
 changed attrs (erase suppressed from end) chars = erased suppressed attrs from end chars
-changed attrs (insert from end by) chars = onPart from end (inserted by) chars
-changed attrs (delete from end by) chars = onPart from end (deleted by) chars
+changed attrs (shift s from end by) chars = onPart from end (shifted s by) chars
 
 unfoldable pub changedAll : List ℕ → List Change → List ℕ → List ℕ
 changedAll attrs [] chars = chars

@@ -3,6 +3,7 @@ use mathlib.Core.Bool.{Bool, true, false, not, _||_}
 use mathlib.Core.List.{List, [], _∷_}
 use Prim.Native.Nat.{ℕ, _+_, _-_}
 use lib.Dec.{eqb}
+use Rattle.screen.specs.declared.edit.Shift.the-variants.{Deletion}
 use Rattle.screen.specs.Words.{if_then_else_, between}
 use Rattle.screen.specs.Attributes.{attributeAt, guardedAt}
 use Rattle.screen.specs.Fields.{opensAt, firstFrom, lastBefore}
@@ -14,7 +15,7 @@ use Rattle.rules.specs.declared.Key.{Key}
 use Rattle.rules.specs.declared.Key.the-variants.{Typed, Back, Tab, Send, Delete, Function, Meaningless}
 use Rattle.rules.specs.Session.{View, printable, cursorCell}
 use Rattle.rules.specs.Refusal.{Test, test}
-use Rattle.rules.specs.Effect.{Effect, put, delete, message, changing, saying, quiet}
+use Rattle.rules.specs.Effect.{Effect, put, message, changing, saying, quiet}
 use Rattle.rules.specs.Telnet.{cursorGuarded}
 use Rattle.rules.specs.Subcommand.{movedTo, transmitted, shifting}
 
@@ -98,7 +99,7 @@ pressed v Tab = quiet (movedTo v (nextField v))
 -- 13: as subcommand 21
 pressed v Send = transmitted v Unprotected
 -- 127: as subcommand 16
-pressed v Delete = shifting v delete
+pressed v Delete = shifting v Deletion
 -- 128 to 143: FN (40) with its number
 pressed v (Function n) = saying v (message (40 ∷ n ∷ []) ∷ [])
 pressed v Meaningless = quiet v

@@ -5,6 +5,8 @@ use Prim.Native.Nat.{ℕ, zero, suc, _+_, _-_, min}
 use lib.Dec.{eqb}
 use lib.ListN.{replicate}
 use Rattle.screen.specs.declared.cell.Place.{Place}
+use Rattle.screen.specs.declared.edit.Shift.{Shift}
+use Rattle.screen.specs.declared.edit.Shift.the-variants.{Insertion, Deletion}
 use Rattle.screen.specs.Words.{if_then_else_}
 use Rattle.screen.specs.Cells.{place, placeOf, lineStart, lineEnd}
 use Rattle.screen.specs.Attributes.{protectedAt}
@@ -23,7 +25,7 @@ use Rattle.rules.specs.declared.Code.the-variants.{Known, Unknown}
 use Rattle.rules.specs.declared.Fault.{Fault}
 use Rattle.rules.specs.declared.Fault.the-variants.{NoFault, UnknownCode, OffScreen, TooManyParameters, TooFewParameters, BadValue, BadMap}
 use Rattle.rules.specs.Session.{View, cursorCell, screenEnd, withCursor, withModes, withAttrs}
-use Rattle.rules.specs.Effect.{Effect, Change, Part, text, erase, insert, delete, message, changing, saying, quiet}
+use Rattle.rules.specs.Effect.{Effect, Part, text, erase, shift, message, changing, saying, quiet}
 use Rattle.rules.specs.Telnet.{cursorGuarded, stepped, hostCharacters}
 use Rattle.rules.specs.Command.{commandOf, codeIn, parameter, formatCount, faultNumber, faultOf}
 
@@ -127,8 +129,8 @@ cursorSpanEnd v =
     let s = v .session in spanEnd (s .suppressed) (v .attrs) (cursorCell v) (lineEnd (s .width) (s .cursor .y))
 
 -- 15 and 16: nothing on a guarded cell, else the edit span shifted by one
-abbrev pub shifting : View → (ℕ → ℕ → ℕ → Change) → Effect
-shifting v shift = changing v (if cursorGuarded v then [] else shift (cursorCell v) (cursorSpanEnd v) 1 ∷ [])
+abbrev pub shifting : View → Shift → Effect
+shifting v s = changing v (if cursorGuarded v then [] else shift s (cursorCell v) (cursorSpanEnd v) 1 ∷ [])
 
 -- 38: suppress, end it, and the two questions
 unfoldable pub suppressing : View → ℕ → Effect
@@ -150,8 +152,8 @@ obeyed v (Step direction) h = quiet (withCursor v (stepped (v .session) directio
 -- 12
 obeyed v Home h = quiet (movedTo v (homeCell v))
 -- 15, 16
-obeyed v CharInsert h = shifting v insert
-obeyed v CharDelete h = shifting v delete
+obeyed v CharInsert h = shifting v Insertion
+obeyed v CharDelete h = shifting v Deletion
 -- 17: answer 18 x y
 obeyed v ReadCursor h = saying v (message (18 ∷ v .session .cursor .x .0 ∷ v .session .cursor .y .0 ∷ []) ∷ [])
 -- 19

@@ -10,7 +10,9 @@ use lib.Dec.{leb, ltb}
 use lib.ListN.{length, getD, take, drop, length-drop, List·getD-eq-default}
 use lib.Seq.{paste, length-take-le, getD-take, getD-drop}
 use Rattle.screen.specs.Words.{if_then_else_}
-use Rattle.screen.specs.Edits.{deleted, deletedCell, inserted, insertedCell, lies, onPart, erased, erasedCell, formatted, formattedCell, textOf, fits, Copied}
+use Rattle.screen.specs.declared.edit.Shift.{Shift}
+use Rattle.screen.specs.declared.edit.Shift.the-variants.{Insertion, Deletion}
+use Rattle.screen.specs.Edits.{deleted, deletedCell, inserted, insertedCell, shifted, lies, onPart, erased, erasedCell, formatted, formattedCell, textOf, fits, Copied}
 use Rattle.screen.proofs.WordLaws.{either, true-or-false, and-left, and-right, both, and-false, tabulate-length, getD-tabulate}
 use Rattle.screen.proofs.ListLaws.{Replaces, replaced-length, replaced-before, replaced-inside, replaced-after}
 
@@ -36,6 +38,12 @@ module _ (by : ℕ) (part : List ℕ) where
   pub inserted-cell : (i d : ℕ) → i < length part → getD (inserted by part) i d ≡ (if ltb i by then 32 else getD part (i - by) 32)
   unfolding inserted
   inserted-cell = getD-tabulate (insertedCell by part) (length part)
+
+-- a shift keeps the length of the part
+pub shifted-length : (shift : Shift) (by : ℕ) (part : List ℕ) → length (shifted shift by part) ≡ length part
+unfolding shifted
+shifted-length Insertion by part = inserted-length by part
+shifted-length Deletion by part = deleted-length by part
 
 module _ (suppressed : Bool) (attrs : List ℕ) (from end : ℕ) (chars : List ℕ) where
   -- an erasure keeps the length of the characters

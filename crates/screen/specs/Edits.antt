@@ -7,6 +7,8 @@ use Prim.Native.Nat.{ℕ, _+_, _-_}
 use lib.Dec.{leb, ltb}
 use lib.ListN.{length, getD, take, drop}
 use lib.Seq.{paste}
+use Rattle.screen.specs.declared.edit.Shift.{Shift}
+use Rattle.screen.specs.declared.edit.Shift.the-variants.{Insertion, Deletion}
 use Rattle.screen.specs.Words.{if_then_else_, inRange, tabulate}
 use Rattle.screen.specs.Attributes.{attributeAt, guardedAt}
 
@@ -23,6 +25,10 @@ insertedCell by part i = if ltb i by then 32 else getD part (i - by) 32
 
 unfoldable pub inserted : ℕ → List ℕ → List ℕ
 inserted by part = tabulate (insertedCell by part) 0 (length part)
+
+unfoldable pub shifted : Shift → ℕ → List ℕ → List ℕ
+shifted Insertion by part = inserted by part
+shifted Deletion by part = deleted by part
 
 -- the range lies in the list
 abbrev pub lies : ℕ → ℕ → List ℕ → Bool

@@ -4,9 +4,15 @@ ghost use mathlib.Core.Bool.{_&&_};
 ghost use Prim.Native.Nat.{_+_, _-_, _<_};
 ghost use lib.Dec.{leb};
 ghost use lib.ListN.{length};
-ghost use Rattle.screen.specs.Edits.{deletedCell, insertedCell, deleted, inserted, onPart, erased, formatted};
+ghost use Rattle.screen.specs.Edits.{deletedCell, insertedCell, deleted, inserted, shifted, onPart, erased, formatted};
 use crate::attribute::is_guarded;
 use crate::number::least;
+
+// What is done at the start of a range: the rest of it moves.
+pub enum Shift {
+    Insertion,
+    Deletion,
+}
 
 // Does the range lie in a slice of this length?
 pub(crate) fn lies_in(from: usize, end: usize, len: usize) -> bool
@@ -57,25 +63,23 @@ fn shift_up(part: &mut [u8], by: usize)
     }
 }
 
-// Deletes `by` characters at the start of the range.
-// (Document 01, code places: the mutable part that starts at the cursor is lent to the shifting routine.)
-pub fn delete(chars: &mut [u8], from: usize, end: usize, by: usize)
-    ensures { λ _. ⌜ now (chars .exit) ≡ onPart from end (deleted by) (now (chars .entry)) ⌝ }
+fn shift_part(part: &mut [u8], shift: Shift, by: usize)
+    ensures { λ _. ⌜ now (part .exit) ≡ shifted shift by (now (part .entry)) ⌝ }
 {
-    let inside = lies_in(from, end, chars.len());
-    if inside {
-        shift_down(&mut chars[from..end], by);
+    match shift {
+        Shift::Insertion => shift_up(part, by),
+        Shift::Deletion => shift_down(part, by),
     }
 }
 
-// Inserts `by` spaces at the start of the range.
+// Inserts `by` spaces at the start of the range, or deletes `by` characters there.
 // (Document 01, code places: the mutable part that starts at the cursor is lent to the shifting routine.)
-pub fn insert(chars: &mut [u8], from: usize, end: usize, by: usize)
-    ensures { λ _. ⌜ now (chars .exit) ≡ onPart from end (inserted by) (now (chars .entry)) ⌝ }
+pub fn shift_range(chars: &mut [u8], shift: Shift, from: usize, end: usize, by: usize)
+    ensures { λ _. ⌜ now (chars .exit) ≡ onPart from end (shifted shift by) (now (chars .entry)) ⌝ }
 {
     let inside = lies_in(from, end, chars.len());
     if inside {
-        shift_up(&mut chars[from..end], by);
+        shift_part(&mut chars[from..end], shift, by);
     }
 }
 

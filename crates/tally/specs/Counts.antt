@@ -1,71 +1,54 @@
--- What a Telnet stream holds, counted: the events of a kind among those that the stream tells.
-use Prim.Native.Nat.{ℕ, suc}
-use mathlib.Core.Bool.{Bool, true, false}
+-- What a Telnet stream holds, counted: what each event that it tells adds.
+use Prim.Native.Nat.{ℕ, _+_, _≤_, _<_}
+use mathlib.Core.Path.{_≡_}
 use mathlib.Core.List.{List, [], _∷_}
-use Rattle.telnet.specs.If.{if_then_else_}
+use lib.ListN.{drop}
+use Rattle.telnet.specs.declared.Phase.the-variants.{Rest}
 use Rattle.telnet.specs.declared.Event.{Event}
 use Rattle.telnet.specs.declared.Event.the-variants.{Nothing, Data, Negotiation, Begin, Sub, End, EndBare, Lost}
+use Rattle.telnet.specs.Stream.{eventsOf}
 use Rattle.tally.specs.declared.Tally.{Tally}
+use Rattle.tally.specs.declared.Place.{Place}
 
--- a data byte
-unfoldable pub isData : Event → Bool
-isData Nothing = false
-isData (Data b) = true
-isData (Negotiation v o) = false
-isData (Begin o) = false
-isData (Sub o b) = false
-isData (End o) = false
-isData EndBare = false
-isData Lost = false
+-- a tally by its counts: data bytes, negotiations, bytes of payload, subnegotiations ended
+abbrev pub counts : ℕ → ℕ → ℕ → ℕ → Tally
+counts d n p e = record { data_bytes = d; negotiations = n; payload = p; ended = e }
 
--- a negotiation: a verb with its option
-unfoldable pub isNegotiation : Event → Bool
-isNegotiation Nothing = false
-isNegotiation (Data b) = false
-isNegotiation (Negotiation v o) = true
-isNegotiation (Begin o) = false
-isNegotiation (Sub o b) = false
-isNegotiation (End o) = false
-isNegotiation EndBare = false
-isNegotiation Lost = false
+abbrev pub none : Tally
+none = counts 0 0 0 0
 
--- a byte of a subnegotiation, its option byte not among them
-unfoldable pub isPayload : Event → Bool
-isPayload Nothing = false
-isPayload (Data b) = false
-isPayload (Negotiation v o) = false
-isPayload (Begin o) = false
-isPayload (Sub o b) = true
-isPayload (End o) = false
-isPayload EndBare = false
-isPayload Lost = false
+-- What one event adds. The option byte is no payload; a subnegotiation ends with or without one, and not where it is thrown away.
+unfoldable pub tallied : Event → Tally
+tallied Nothing = none
+tallied (Data b) = counts 1 0 0 0
+tallied (Negotiation v o) = counts 0 1 0 0
+tallied (Begin o) = none
+tallied (Sub o b) = counts 0 0 1 0
+tallied (End o) = counts 0 0 0 1
+tallied EndBare = counts 0 0 0 1
+tallied Lost = none
 
--- the end of a subnegotiation, with or without an option byte; one that is thrown away does not end
-unfoldable pub isEnd : Event → Bool
-isEnd Nothing = false
-isEnd (Data b) = false
-isEnd (Negotiation v o) = false
-isEnd (Begin o) = false
-isEnd (Sub o b) = false
-isEnd (End o) = true
-isEnd EndBare = true
-isEnd Lost = false
+-- two tallies together
+unfoldable pub plus : Tally → Tally → Tally
+plus s t =
+    counts (s .data_bytes + t .data_bytes) (s .negotiations + t .negotiations) (s .payload + t .payload) (s .ended + t .ended)
 
--- how many of the events are of the kind
-unfoldable pub countOf : (Event → Bool) → List Event → ℕ
-countOf kind [] = 0
-countOf kind (e ∷ es) = if kind e then suc (countOf kind es) else countOf kind es
-
--- the four counts
+-- what the events add together
 unfoldable pub tallyOf : List Event → Tally
-tallyOf es = record {
-  data_bytes = countOf isData es;
-  negotiations = countOf isNegotiation es;
-  payload = countOf isPayload es;
-  ended = countOf isEnd es;
-}
+tallyOf [] = none
+tallyOf (e ∷ es) = plus (tallied e) (tallyOf es)
 
--- names all of the above: under `unfolding counts` a proof computes with them
-unfoldable pub counts : ℕ
-unfolding isData isNegotiation isPayload isEnd countOf tallyOf
-counts = 0
+-- the four counts together
+abbrev pub total : Tally → ℕ
+total t = t .data_bytes + t .negotiations + t .payload + t .ended
+
+-- The input is counted up to p: the counts so far and those of what is left are those of the whole, and they fit, since no more
+-- is counted than bytes are read.
+pub record Counting (input : List ℕ) (p : Place) : Type 0 where
+  pub whole : plus (p .tally) (tallyOf (eventsOf (p .phase) (drop (p .at) input))) ≡ tallyOf (eventsOf Rest input)
+  pub few : total (p .tally) ≤ p .at
+
+-- At q it is counted further than at p.
+pub record Further (input : List ℕ) (p q : Place) : Type 0 where
+  pub counting : Counting input q
+  pub further : p .at < q .at

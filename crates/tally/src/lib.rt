@@ -1,11 +1,11 @@
 // Counts what a Telnet stream holds, from a reader at rest. It is the reader used by itself: no screen, no option's meaning.
 // Runs of data and of payload are taken at once, so that text costs little; the reader is asked about the other bytes.
 ghost use mathlib.Core.Path.{_≡_};
-ghost use Prim.Native.Nat.{_<_};
+ghost use Prim.Native.Nat.{_+_, _<_, _^_};
+ghost use lib.ListN.{length};
 ghost use Rattle.telnet.specs.declared.Phase.the-variants.{Rest, Inside};
-ghost use Rattle.telnet.specs.Stream.{told, eventsOf};
-ghost use Rattle.tally.specs.Counts.{isData, isNegotiation, isPayload, isEnd, countOf, tallyOf};
-ghost use Rattle.tally.specs.Counting.{plus, Fit, Counting, Further};
+ghost use Rattle.telnet.specs.Stream.{eventsOf};
+ghost use Rattle.tally.specs.Counts.{tallied, plus, tallyOf, total, Counting, Further};
 use telnet::Event;
 use telnet::Phase;
 use telnet::read;
@@ -28,8 +28,8 @@ struct Place {
 
 // One event more.
 fn counted(tally: Tally, event: Event) -> Tally
-    requires { ⌜ Fit (plus tally (tallyOf (told event))) ⌝ }
-    ensures { λ r. ⌜ r ≡ plus tally (tallyOf (told event)) ⌝ }
+    requires { ⌜ total tally + 1 < 2 ^ 64 ⌝ }
+    ensures { λ r. ⌜ r ≡ plus tally (tallied event) ⌝ }
 {
     let mut next = tally;
     match event {
@@ -47,9 +47,8 @@ fn counted(tally: Tally, event: Event) -> Tally
 
 // One byte, by the reader.
 fn one(place: Place, input: &[u8]) -> Place
-    requires { ⌜ Counting (now input) (place .phase) (place .at) (place .tally) ⌝ }
-    requires { do ⌜ place .at < (← ⟦input.len()⟧) ⌝ }
-    ensures { λ r. ⌜ Further (now (input .entry)) (place .at) r ⌝ }
+    requires { ⌜ Counting (now input) place × (place .at < length (now input)) ⌝ }
+    ensures { λ r. ⌜ Further (now (input .entry)) place r ⌝ }
 {
     let phase = place.phase;
     let at = place.at;
@@ -65,13 +64,14 @@ fn one(place: Place, input: &[u8]) -> Place
 }
 
 // At rest: the data up to the next IAC, and that IAC.
-fn data_run(tally: Tally, at: usize, input: &[u8]) -> Place
-    requires { ⌜ Counting (now input) Rest at tally ⌝ }
-    requires { do ⌜ at < (← ⟦input.len()⟧) ⌝ }
-    ensures { λ r. ⌜ Further (now (input .entry)) at r ⌝ }
+fn data_run(place: Place, input: &[u8]) -> Place
+    requires { ⌜ place .phase ≡ Rest ⌝ }
+    requires { ⌜ Counting (now input) place × (place .at < length (now input)) ⌝ }
+    ensures { λ r. ⌜ Further (now (input .entry)) place r ⌝ }
 {
+    let at = place.at;
     let end = data_end(input, at);
-    let mut next = tally;
+    let mut next = place.tally;
     next.data_bytes += end - at;
     if end < input.len() {
         Place {
@@ -89,13 +89,14 @@ fn data_run(tally: Tally, at: usize, input: &[u8]) -> Place
 }
 
 // In the subnegotiation of this option: its payload up to the next IAC, and that IAC.
-fn payload_run(option: u8, tally: Tally, at: usize, input: &[u8]) -> Place
-    requires { ⌜ Counting (now input) (Inside option) at tally ⌝ }
-    requires { do ⌜ at < (← ⟦input.len()⟧) ⌝ }
-    ensures { λ r. ⌜ Further (now (input .entry)) at r ⌝ }
+fn payload_run(option: u8, place: Place, input: &[u8]) -> Place
+    requires { ⌜ place .phase ≡ Inside option ⌝ }
+    requires { ⌜ Counting (now input) place × (place .at < length (now input)) ⌝ }
+    ensures { λ r. ⌜ Further (now (input .entry)) place r ⌝ }
 {
+    let at = place.at;
     let end = data_end(input, at);
-    let mut next = tally;
+    let mut next = place.tally;
     next.payload += end - at;
     if end < input.len() {
         Place {
@@ -114,15 +115,13 @@ fn payload_run(option: u8, tally: Tally, at: usize, input: &[u8]) -> Place
 
 // A run where the reader stands in one, else a byte: the phase is looked at once for either.
 fn turn(place: Place, input: &[u8]) -> Place
-    requires { ⌜ Counting (now input) (place .phase) (place .at) (place .tally) ⌝ }
-    requires { do ⌜ place .at < (← ⟦input.len()⟧) ⌝ }
-    ensures { λ r. ⌜ Further (now (input .entry)) (place .at) r ⌝ }
+    requires { ⌜ Counting (now input) place × (place .at < length (now input)) ⌝ }
+    ensures { λ r. ⌜ Further (now (input .entry)) place r ⌝ }
 {
     let phase = place.phase;
-    let at = place.at;
     match phase {
-        Phase::Rest => data_run(place.tally, at, input),
-        Phase::Inside(option) => payload_run(option, place.tally, at, input),
+        Phase::Rest => data_run(place, input),
+        Phase::Inside(option) => payload_run(option, place, input),
         _ => one(place, input),
     }
 }
@@ -158,10 +157,10 @@ pub extern "C" fn telnet_tally(
     payload: &mut usize,
     ended: &mut usize,
 )
-    ensures { λ _. ⌜ now (data_bytes .exit) ≡ countOf isData (eventsOf Rest (now (input .entry))) ⌝ }
-    ensures { λ _. ⌜ now (negotiations .exit) ≡ countOf isNegotiation (eventsOf Rest (now (input .entry))) ⌝ }
-    ensures { λ _. ⌜ now (payload .exit) ≡ countOf isPayload (eventsOf Rest (now (input .entry))) ⌝ }
-    ensures { λ _. ⌜ now (ended .exit) ≡ countOf isEnd (eventsOf Rest (now (input .entry))) ⌝ }
+    ensures { λ _. ⌜ now (data_bytes .exit) ≡ tallyOf (eventsOf Rest (now (input .entry))) .data_bytes ⌝ }
+    ensures { λ _. ⌜ now (negotiations .exit) ≡ tallyOf (eventsOf Rest (now (input .entry))) .negotiations ⌝ }
+    ensures { λ _. ⌜ now (payload .exit) ≡ tallyOf (eventsOf Rest (now (input .entry))) .payload ⌝ }
+    ensures { λ _. ⌜ now (ended .exit) ≡ tallyOf (eventsOf Rest (now (input .entry))) .ended ⌝ }
 {
     let tally = tally_of(input);
     *data_bytes = tally.data_bytes;

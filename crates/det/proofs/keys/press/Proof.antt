@@ -30,6 +30,6 @@ press-spec =
     (λ c. rw (c .before .enum-told .given .1) (c .go-back .ensures))
     (λ c. rw (c .before .enum-told2 .given .1) (c .tab .ensures))
     (λ c. rw (c .before .enum-told3 .given .1) (c .transmit .ensures))
-    (λ c. rw (c .before .enum-told4 .given .1) (c .char-delete .ensures))
+    (λ c. rw (c .before .enum-told4 .given .1) (c .char-shift .ensures))
     (λ c. rw (c .before .before .key2 .given .1) (decides (c .saying .ensures) tt (λ phase held. refl)))
     (λ c. rw (c .before .enum-told5 .given .1) (decides (c .quiet .ensures) tt (λ phase held. refl))))

@@ -1,5 +1,4 @@
 -- `happen` meets its contract: one case for each event.
-use mathlib.Core.Path.{refl}
 use borrow.Author.Needs.{needs}
 use Rattle.rules.specs.Operation.{happening}
 use Rattle.det.specs.Take.{heldAfter}

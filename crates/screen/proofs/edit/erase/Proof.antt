@@ -2,7 +2,7 @@
 use native.Mathlib.Omega.{arith}
 use mathlib.Core.Bool.{not, _&&_}
 use mathlib.Core.Logic.{⊎-elim}
-use mathlib.Core.Path.{sym, _∙_}
+use mathlib.Core.Path.{sym, ap, _∙_}
 use Prim.Native.Nat.{_-_, _≤_, _<_}
 use lib.ListN.{length}
 use borrow.Author.Needs.{needs}
@@ -35,8 +35,8 @@ erase-spec =
     let h : l .i < length (a .chars .now) = omega arith in (
       omega arith,
       ⊎-elim
-          (λ w. rw (w .1) (storing-hit (l .inv .1) h (rw (r, g ∙ not-true _ (w .0 .taken)))))
-          (λ w. rw (w .1) (storing-miss (l .inv .1) h (rw (r, g ∙ not-false _ (w .0 .left)))))
+          (λ w. rw (w .1) (storing-hit (l .inv .1) h (rw r (ap not (g ∙ not-true _ (w .0 .taken))))))
+          (λ w. rw (w .1) (storing-miss (l .inv .1) h (rw r (ap not (g ∙ not-false _ (w .0 .left))))))
           (c .if1 .came),
     ))
     (λ c. search needs)

@@ -1,12 +1,12 @@
--- `insert` meets its contract: the part is shifted by itself, and comes back where it stood.
+-- `shift_range` meets its contract: the part is shifted by itself, and comes back where it stood.
 use mathlib.Core.Path.{sym, _∙_}
 use borrow.Author.Needs.{needs}
 use Rattle.screen.proofs.EditLaws.{lies-ordered, lies-end, onPart-none, put-part}
-use Rattle.screen.proofs.edit.insert.Statement.{statement}
-use Rattle.screen.proofs.edit.insert.Tie as tie
+use Rattle.screen.proofs.edit.shift_range.Statement.{statement}
+use Rattle.screen.proofs.edit.shift_range.Tie as tie
 
-pub insert-spec : {M : Type 1} → statement M
-insert-spec =
+pub shift-range-spec : {M : Type 1} → statement M
+shift-range-spec =
     tie.close
     (tie.spec
     (λ c κs. search needs)
@@ -16,5 +16,5 @@ insert-spec =
     (λ c κs. search needs)
     (λ c. search needs)
     (λ c. let s = c .before .before .before .before in
-    put-part _ _ _ _ _ (sym (s .before .lies-in .ensures) ∙ s .if1 .taken) (c .before .before .shift-up .ensures))
+    put-part _ _ _ _ _ (sym (s .before .lies-in .ensures) ∙ s .if1 .taken) (c .before .before .shift-part .ensures))
     (λ c. sym (onPart-none _ _ _ _ (sym (c .before .lies-in .ensures) ∙ c .if1 .left))))

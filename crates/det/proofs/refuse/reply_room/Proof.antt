@@ -1,5 +1,5 @@
 -- `reply_room` meets its contract: seven times the product of two bytes fits.
-use borrow.Author.Needs.{needs}
+use mathlib.Core.Path.{refl}
 use native.Mathlib.Omega.{arith}
 use Rattle.screen.proofs.CellLaws.{byte-product}
 use Rattle.det.proofs.refuse.reply_room.Statement.{statement}
@@ -12,4 +12,4 @@ reply-room-spec =
     (λ c. omega (arith, byte-product {a = c .args .height} {b = c .args .width} (omega arith) (omega arith)))
     (λ c. omega (arith, byte-product {a = c .args .height} {b = c .args .width} (omega arith) (omega arith)))
     (λ c. omega (arith, byte-product {a = c .args .height} {b = c .args .width} (omega arith) (omega arith)))
-    (λ c. search needs))
+    (λ c. refl))

@@ -40,6 +40,7 @@ abbrev pub noSession : List ℕ → List ℕ → List ℕ → List ℕ → Resul
 noSession session reply attrs chars =
     record { number = 255; session = session; taken = 0; written = 0; reply = reply; attrs = attrs; chars = chars }
 
+-- done where the test is passed, else refused
 unfoldable pub provided : Bool → Result → Result → Result
 provided true done refused = done
 provided false done refused = refused
@@ -49,6 +50,7 @@ unfoldable pub openCall : ℕ → ℕ → List ℕ → List ℕ → List ℕ →
 openCall m n session attrs chars =
     provided (eqb (length session) sessionLength) (told (opened m n attrs chars)) (noSession session [] attrs chars)
 
+-- host bytes and a key want the bytes of a session
 unfoldable pub hostCall : List ℕ → List ℕ → List ℕ → List ℕ → List ℕ → Result
 hostCall session input reply attrs chars =
     provided (isSession session) (told (hostBytes (lent (decoded session) attrs chars) reply input)) (noSession session reply attrs chars)

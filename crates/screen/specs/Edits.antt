@@ -26,6 +26,7 @@ insertedCell by part i = if ltb i by then 32 else getD part (i - by) 32
 unfoldable pub inserted : ℕ → List ℕ → List ℕ
 inserted by part = tabulate (insertedCell by part) 0 (length part)
 
+-- the one or the other
 unfoldable pub shifted : Shift → ℕ → List ℕ → List ℕ
 shifted Insertion by part = inserted by part
 shifted Deletion by part = deleted by part

@@ -7,20 +7,16 @@ use native.Mathlib.Nat.{not-suc-le-zero}
 use native.Mathlib.Omega.{arith}
 use types.Run.{OneOf}
 use denote.Enum.Declared.{tagOf}
-use Rattle.telnet.specs.declared.Phase.{Phase}
 use Rattle.screen.proofs.WordLaws.{either}
-use Rattle.rules.specs.declared.Held.{Held}
-use Rattle.rules.specs.declared.Session.{Session}
-use Rattle.rules.specs.Session.{View}
+use Rattle.rules.specs.declared.Frame.{Frame}
+use Rattle.rules.specs.Session.{Screen, View, screen, view}
 use Rattle.rules.specs.Effect.{Effect, changedAll, changing}
 use Rattle.rules.specs.Telnet.{cursorGuarded, hostCharacter, hostCharacters}
 use Rattle.rules.proofs.Characters.{changed-append}
-use Rattle.det.proofs.decision.Change.{the-type}
-use Rattle.det.specs.declared.frame.Frame.{Frame}
-use Rattle.det.specs.declared.decision.Change.{Change}
-use Rattle.det.specs.declared.decision.Change.the-variants.{Nothing, Put, Erase, Shift, Repeat}
-use Rattle.det.specs.Frame.{sessionOf, viewOf}
-use Rattle.det.specs.Decision.{changeOf, editsOf, Once}
+use Rattle.decide.proofs.decision.Change.{the-type}
+use Rattle.decide.specs.declared.decision.Change.{Change}
+use Rattle.decide.specs.declared.decision.Change.the-variants.{Nothing, Put, Erase, Shift, Repeat}
+use Rattle.decide.specs.Decision.{changeOf, editsOf, Once}
 use Rattle.det.specs.Apply.{Changes}
 
 -- what the other arm of a match on Repeat knows
@@ -33,9 +29,9 @@ not-repeat (Repeat n c) h v =
     absurd (⊎-elim (λ p. omega arith) (⊎-elim (λ p. omega arith) (⊎-elim (λ p. omega arith) (λ p. omega arith))) h)
 
 -- a change that is done at once leaves the frame as it is
-pub changes-once : (change : Change) {f : Frame} {attrs chars chars′ : List ℕ} → Once change → chars′ ≡ changedAll attrs (editsOf change) chars
-    → (phase : Phase) (held : Held) → Changes (changeOf (viewOf f phase held attrs) change) attrs chars (sessionOf f phase held) chars′
-changes-once change {f} {attrs} once e phase held = rw (once (viewOf f phase held attrs)) (record { session = refl; characters = e })
+pub changes-once : (change : Change) {f : Frame} {b : Screen} {chars : List ℕ} → Once change
+    → chars ≡ changedAll (b .attrs) (editsOf change) (b .chars) → Changes (changeOf (view f (b .attrs)) change) b f chars
+changes-once change {f} {b} once e = rw (once (view f (b .attrs))) (record { frame = refl; characters = e })
 
 -- ---- REPEAT
 
@@ -53,28 +49,25 @@ one-less (suc k) v c h = let e : suc k - 1 ≡ k = omega arith in rw e
 
 -- n characters from a frame and these characters on: what k more do from here is what they all do
 pub record Repeating (attrs : List ℕ) (c n : ℕ) (f₀ : Frame) (chars₀ : List ℕ) (k : ℕ) (f : Frame) (chars : List ℕ) : Type 0 where
-  pub all : (phase : Phase) (held : Held) {s : Session} {chars′ : List ℕ} → Changes (hostCharacters k (viewOf f phase held attrs) c) attrs chars s chars′
-      → Changes (hostCharacters n (viewOf f₀ phase held attrs) c) attrs chars₀ s chars′
+  pub all : {f′ : Frame} {chars′ : List ℕ} → Changes (hostCharacters k (view f attrs) c) (screen chars attrs) f′ chars′
+      → Changes (hostCharacters n (view f₀ attrs) c) (screen chars₀ attrs) f′ chars′
 
 pub repeating-start : {attrs : List ℕ} {c n : ℕ} {f : Frame} {chars : List ℕ} → Repeating attrs c n f chars n f chars
-repeating-start = record { all = λ phase held d. d }
+repeating-start = record { all = λ d. d }
 
 module _ {attrs : List ℕ} {c n : ℕ} {f₀ : Frame} {chars₀ : List ℕ} {k : ℕ} {f : Frame} {chars : List ℕ} (r : Repeating attrs c n f₀ chars₀ k f chars) where
   -- one more is done
-  pub repeating-more : {f′ : Frame} {chars′ : List ℕ} → 0 < k
-      → ((phase : Phase) (held : Held) → Changes (hostCharacter (viewOf f phase held attrs) c) attrs chars (sessionOf f′ phase held) chars′)
+  pub repeating-more : {f′ : Frame} {chars′ : List ℕ} → 0 < k → Changes (hostCharacter (view f attrs) c) (screen chars attrs) f′ chars′
       → Repeating attrs c n f₀ chars₀ (k - 1) f′ chars′
   repeating-more {f′} h one = record {
-    all = λ phase held d.
-        let o = one phase held in
-        let v = viewOf f phase held attrs in
-        let after : viewOf f′ phase held attrs ≡ (hostCharacter v c) .view = λ i. record { session = (o .session) i; attrs = sym (host-attrs v c) i } in
+    all = λ d.
+        let v = view f attrs in
+        let after : view f′ attrs ≡ (hostCharacter v c) .view = λ i. record { frame = (one .frame) i; attrs = sym (host-attrs v c) i } in
         let less = one-less k v c h in
-        r .all phase held (record { session = rw (less, ← after) (d .session); characters = rw (less, changed-append, ← after, ← o .characters) (d .characters) });
+        r .all (record { frame = rw (less, ← after) (d .frame); characters = rw (less, changed-append, ← after, ← one .characters) (d .characters) });
   }
 
   -- none is left
-  pub repeating-end : k ≤ 0 → (phase : Phase) (held : Held)
-      → Changes (hostCharacters n (viewOf f₀ phase held attrs) c) attrs chars₀ (sessionOf f phase held) chars
+  pub repeating-end : k ≤ 0 → Changes (hostCharacters n (view f₀ attrs) c) (screen chars₀ attrs) f chars
   unfolding hostCharacters changedAll
-  repeating-end h phase held = let e : k ≡ 0 = omega arith in r .all phase held (rw e (record { session = refl; characters = refl }))
+  repeating-end h = let e : k ≡ 0 = omega arith in r .all (rw e (record { frame = refl; characters = refl }))

@@ -6,19 +6,15 @@ use native.Mathlib.Nat.{zero-add, sub-zero, add-zero}
 use native.Mathlib.Omega.{arith}
 use lib.ListN.{length, getD, take, drop, length-drop, take-append-drop}
 use lib.Seq.{take-add, drop-cons, drop-drop, length-take-le}
-use Rattle.rules.specs.declared.Session.{Session}
 use Rattle.rules.specs.declared.Refusal.the-variants.{Taken}
-use Rattle.rules.specs.Session.{replyRoom}
-use Rattle.rules.specs.Operation.{State, Ran, hostByte, running, takenOf}
-use Rattle.rules.proofs.Calls.{byteRan}
+use Rattle.rules.specs.Session.{Screen, State, replyRoom}
+use Rattle.rules.specs.Operation.{Ran, outcome, hostByte, running, takenOf}
 use Rattle.rules.proofs.Sound.{Sound, sound-running, passes}
 use Rattle.rules.proofs.Room.{room-byte}
 use Rattle.rules.proofs.Run.{running-append, silent-taken, taken-step}
 use Rattle.det.specs.declared.take.Turn.{Turn}
-use Rattle.det.specs.declared.frame.Frame.{Frame}
-use Rattle.det.specs.Frame.{sessionOf, frameOf}
-use Rattle.det.specs.Apply.{Applies}
-use Rattle.det.specs.Settled.{lent, Settled, hostTaken}
+use Rattle.reply.specs.Reply.{Emitted}
+use Rattle.det.specs.Lent.{hostTaken}
 use Rattle.det.specs.Take.{Accepts, part, Taking, QuietRun, Turned, QuietTurn}
 use Rattle.det.proofs.ReplyLaws.{emitted-none, emitted-length, emitted-then, emitted-whole}
 use Rattle.det.proofs.TakeLaws.{accepted}
@@ -76,35 +72,32 @@ module _ {s s₁ s₂ : State} {input : List ℕ} {a b c : ℕ} {reply reply₁ 
 
 -- ---- one byte, and a run
 
-running-one : (s : State) (b : ℕ) → running s (b ∷ []) ≡ byteRan s b
+running-one : (s : State) (b : ℕ) → running s (b ∷ []) ≡ hostByte s b
 unfolding running
 running-one s b = simp append-nil
 
-module _ {s : Session} {attrs chars : List ℕ} {reply : List ℕ} {at : ℕ} (a : Accepts s attrs chars reply at) where
-  free : replyRoom s ≤ length reply - at
+module _ {s : State} {reply : List ℕ} {at : ℕ} (a : Accepts s reply at) where
+  free : replyRoom (s .session .frame) ≤ length reply - at
   free = omega (arith, accepted a .room, length-drop at reply)
 
   module _ {input : List ℕ} {from : ℕ} where
-    pub taking-byte : from < length input → {s′ : Session} {chars′ attrs′ reply′ : List ℕ} {at′ : ℕ}
-        → Applies (hostByte (lent s attrs chars .view) (getD input from 0)) chars attrs reply at s′ chars′ attrs′ reply′ at′
-        → Taking (lent s attrs chars) input from reply at (lent s′ attrs′ chars′) (from + 1) reply′ at′
-    taking-byte h {s′} {chars′} {attrs′} {at′ = at′} p =
+    pub taking-byte : from < length input → {s′ : State} {reply′ : List ℕ} {at′ : ℕ} → s′ ≡ (hostByte s (getD input from 0)) .state
+        → Emitted reply at ((hostByte s (getD input from 0)) .replies) reply′ at′ → Taking s input from reply at s′ (from + 1) reply′ at′
+    taking-byte h {at′ = at′} after p =
         let b = getD input from 0 in
-        let one = byteRan (lent s attrs chars) b in
-        let ran : running (lent s attrs chars) (part from (from + 1) input) ≡ one = rw (part-one from input h) (running-one (lent s attrs chars) b) in
-        let after : lent s′ attrs′ chars′ ≡ one .state = rw (p .changes .session, p .attributes, p .changes .characters) in
-        let left : length reply - at′ ≡ length reply - at - length (one .replies) = omega (arith, p .replies .next) in
+        let one = hostByte s b in
+        let ran : running s (part from (from + 1) input) ≡ one = rw (part-one from input h) (running-one s b) in
+        let left : length reply - at′ ≡ length reply - at - length (one .replies) = omega (arith, p .next) in
         record {
           onward = omega arith;
           within = omega arith;
-          room = omega (arith, p .replies .next, room-byte (accepted a .sound) b, free);
+          room = omega (arith, p .next, room-byte (accepted a .sound) b, free);
           state = after ∙ rw ran;
-          replies = rw ran (p .replies);
-          count = rw (after, left) (omega (arith, taken-step (lent s attrs chars) (length reply - at) input from h free));
+          replies = rw ran p;
+          count = rw (after, left) (omega (arith, taken-step s (length reply - at) input from h free));
         }
 
-    pub taking-run : {s′ : State} {end : ℕ} → QuietRun (lent s attrs chars) input from s′ end
-        → Taking (lent s attrs chars) input from reply at s′ end reply at
+    pub taking-run : {s′ : State} {end : ℕ} → QuietRun s input from s′ end → Taking s input from reply at s′ end reply at
     taking-run {s′} {end} r =
         let xs = part from end input in
         let long = length-take-le (end - from) (drop from input) (omega (arith, length-drop from input, r .within)) in
@@ -119,37 +112,26 @@ module _ {s : Session} {attrs chars : List ℕ} {reply : List ℕ} {at : ℕ} (a
         }
 
     -- a turn that draws no reply
-    pub turned-quiet : {t : Turn} {attrs′ chars′ : List ℕ} → QuietTurn (lent s attrs chars) input from at t attrs′ chars′
-        → Turned (lent s attrs chars) input from reply at t reply attrs′ chars′
+    pub turned-quiet : {t : Turn} {b : Screen} → QuietTurn s input from at t b → Turned s input from reply at t b reply
     turned-quiet q = record { taking = rw (q .same) (taking-run (q .run)); further = q .further }
 
 -- ---- a whole call
 
--- a session in its parts
-pub accepts-parts : {s : Session} {f : Frame} {attrs chars reply : List ℕ} {at : ℕ} → f ≡ frameOf s → Accepts s attrs chars reply at
-    → Accepts (sessionOf f (s .phase) (s .held)) attrs chars reply at
-accepts-parts p a = rw p a
-
-module _ {s₀ : State} {reply₀ : List ℕ} (a : Accepts (s₀ .view .session) (s₀ .view .attrs) (s₀ .chars) reply₀ 0)
-    {input : List ℕ} {s : State} {reply : List ℕ} {taken written : ℕ} (t : Taking s₀ input 0 reply₀ 0 s taken reply written) where
+module _ {s₀ : State} {reply₀ : List ℕ} (a : Accepts s₀ reply₀ 0) {input : List ℕ} {s : State} {reply : List ℕ} {taken written : ℕ}
+    (t : Taking s₀ input 0 reply₀ 0 s taken reply written) where
   -- a byte is taken where there is room for a reply
-  pub taking-accepts : replyRoom (s .view .session) ≤ length reply - written
-      → Accepts (s .view .session) (s .view .attrs) (s .chars) reply written
+  pub taking-accepts : replyRoom (s .session .frame) ≤ length reply - written → Accepts s reply written
   taking-accepts r =
-      let sound : Sound (s₀ .view .session .width) (s₀ .view .session .height) s = rw (t .state) (sound-running (accepted a .sound) (part 0 taken input)) in
+      let sound : Sound (s₀ .session .frame .width) (s₀ .session .frame .height) s = rw (t .state) (sound-running (accepted a .sound) (part 0 taken input)) in
       record { tests = passes sound (drop written reply) (rw length-drop r) }
 
   -- where no more is taken, all is done
   pub taking-done : takenOf s (length reply₀ - written) (drop taken input) ≡ 0
-      → Settled (hostTaken s₀ reply₀ input)
-      (record { session = s .view .session; refusal = Taken; taken = taken; written = written }) reply (s .view .attrs) (s .chars)
+      → outcome (record { session = s .session; refusal = Taken; taken = taken; written = written }) (s .screen) reply
+      ≡ hostTaken s₀ reply₀ input
   taking-done e =
       let all : takenOf s₀ (length reply₀) input ≡ taken = simp (sub-zero, e, add-zero) at (t .count) in
       let whole : part 0 taken input ≡ take taken input = rw sub-zero in
       let count = t .replies .next in
-      rw all (record {
-        answer-is = rw (t .state, count, zero-add, whole);
-        reply-is = rw whole at (emitted-whole (record { fits = rw (← count) (t .room) }) (t .replies));
-        attrs-is = rw (t .state, whole);
-        chars-is = rw (t .state, whole);
-      })
+      let said = rw whole at (emitted-whole (record { fits = rw (← count) (t .room) }) (t .replies)) in
+      rw (all, t .state, count, zero-add, whole, said)

@@ -1,9 +1,8 @@
-pub mod DecideLaws
 pub mod WriteLaws
-pub mod ObeyLaws
 pub mod ReplyLaws
 pub mod ApplyLaws
 pub mod QuietLaws
+pub mod LoopLaws
 pub mod RefuseLaws
 pub mod SettleLaws
 pub mod TakeLaws

@@ -5,19 +5,15 @@ use mathlib.Core.List.{List, [], _∷_, _++_}
 use Prim.Native.Nat.{ℕ, _+_, _*_, _≤_, _<_}
 use native.Mathlib.Numerals.{add-one}
 use borrow.Author.Tests.{not-true, not-false, leb-true}
-use types.Run.{OneOf, miss}
-use denote.Enum.Declared.{tagOf}
 use lib.Dec.{leb}
 use lib.ListN.{length, getD, drop}
 use lib.Seq.{drop-cons}
 use Rattle.screen.specs.Words.{between}
 use Rattle.screen.proofs.WordLaws.{true-or-false, not-both, and-left, and-right}
 use Rattle.screen.proofs.CellLaws.{cells-few}
-use Rattle.rules.specs.declared.Refusal.{Refusal}
-use Rattle.rules.specs.declared.Refusal.the-variants.{Taken, Size, BufferLength, BadCharacter, BadSession, ReplyRoom, Guarded, WrongClass, DetOff, NoMeaning}
+use Rattle.rules.specs.declared.Refusal.the-variants.{Taken}
 use Rattle.rules.specs.Session.{sizesOk, printable, allPrintable}
 use Rattle.rules.specs.Refusal.{Test, isTaken, verdict}
-use Rattle.rules.proofs.Refusal.{the-type}
 use Rattle.rules.proofs.Refusals.{refuses}
 
 -- ---- a test that the code makes
@@ -46,19 +42,6 @@ pub failed-first : (ts us : List Test) → isTaken (verdict ts) ≡ false → ve
 unfolding verdict
 failed-first [] us e = not-both true refl e
 failed-first (t ∷ ts) us e = true-or-false (t .passes) (λ p. rw p (failed-first ts us (rw p at e))) (λ p. rw p)
-
--- what the other arm of a match on Taken knows
-pub not-taken : (r : Refusal) → OneOf (1 ∷ 2 ∷ 3 ∷ 4 ∷ 5 ∷ 6 ∷ 7 ∷ 8 ∷ 9 ∷ []) (tagOf the-type r) → isTaken r ≡ false
-not-taken Taken h = absurd (miss (1 ∷ 2 ∷ 3 ∷ 4 ∷ 5 ∷ 6 ∷ 7 ∷ 8 ∷ 9 ∷ []) 0 tt h)
-not-taken Size h = refl
-not-taken BufferLength h = refl
-not-taken BadCharacter h = refl
-not-taken BadSession h = refl
-not-taken ReplyRoom h = refl
-not-taken Guarded h = refl
-not-taken WrongClass h = refl
-not-taken DetOff h = refl
-not-taken NoMeaning h = refl
 
 -- ---- the tests
 

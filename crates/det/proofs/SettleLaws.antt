@@ -14,24 +14,23 @@ use Rattle.rules.specs.declared.Refusal.{Refusal}
 use Rattle.rules.specs.declared.Refusal.the-variants.{Taken}
 use Rattle.rules.specs.declared.Session.{Session}
 use Rattle.rules.specs.declared.Answer.{Answer}
-use Rattle.rules.specs.Session.{fresh}
+use Rattle.rules.specs.Session.{Screen, State, freshFrame, fresh, screen}
 use Rattle.rules.specs.Refusal.{isTaken, verdict, sizeTests}
-use Rattle.rules.specs.Operation.{State, Outcome, unless, opened}
+use Rattle.rules.specs.Operation.{Outcome, outcome, unless, opened}
 use Rattle.rules.proofs.Refusals.{all-pass}
-use Rattle.det.specs.Settled.{Settled, refusedAnswer}
-use Rattle.det.proofs.ObeyLaws.{all-zeros}
+use Rattle.det.specs.Lent.{refusedAnswer}
+use Rattle.decide.proofs.ObeyLaws.{all-zeros}
 use Rattle.det.proofs.RefuseLaws.{bounds}
 
 -- ---- refused, or done
 
-module _ {why r : Refusal} (s : State) (reply : List ℕ) (done : Outcome) {a : Answer} (e : why ≡ r) where
-  pub settled-refused : isTaken why ≡ false → a ≡ refusedAnswer (s .view .session) why
-      → Settled (unless r s reply done) a reply (s .view .attrs) (s .chars)
+module _ {why r : Refusal} (s : State) (reply : List ℕ) (done : Outcome) (e : why ≡ r) where
+  pub settled-refused : {a : Answer} → isTaken why ≡ false → a ≡ refusedAnswer (s .session) why
+      → outcome a (s .screen) reply ≡ unless r s reply done
   unfolding unless
-  settled-refused f q = rw (← e, f) (record { answer-is = q; reply-is = refl; attrs-is = refl; chars-is = refl })
+  settled-refused f q = rw (← e, f, q)
 
-  pub settled-done : {reply′ attrs chars : List ℕ} → why ≡ Taken → Settled done a reply′ attrs chars
-      → Settled (unless r s reply done) a reply′ attrs chars
+  pub settled-done : {o : Outcome} → why ≡ Taken → o ≡ done → o ≡ unless r s reply done
   unfolding unless
   settled-done t h = rw (sym e ∙ t) h
 
@@ -44,31 +43,26 @@ all-spaces attrs chars =
     sym (tabulated (erasedCell true attrs 0 (length chars) chars) (replicate (length chars) 32) (length chars) 0 (length-replicate _ 32)
     (λ k h. getD-replicate _ k 32 0 h ∙ rw (in-range 0 (length chars) k (omega arith) h)))
 
-module _ (m n : ℕ) (attrs chars : List ℕ) {why : Refusal} (e : why ≡ verdict (sizeTests (fresh m n) attrs chars)) where
+module _ (m n : ℕ) (b : Screen) {why : Refusal} (e : why ≡ verdict (sizeTests (freshFrame m n) b)) where
   pub open-refused : {s : Session} {a : Answer} → isTaken why ≡ false → s ≡ fresh 0 0 → a ≡ refusedAnswer s why
-      → Settled (opened m n attrs chars) a [] attrs chars
+      → outcome a b [] ≡ opened m n b
   unfolding opened
   open-refused f p q = settled-refused _ _ _ e f (rw (← p) q)
 
   module _ (t : why ≡ Taken) where
     -- the sizes and the lengths, as refusals 1 and 2 ask
-    pub open-sizes : (m ≤ 132) × (n ≤ 64) × (length chars ≡ n * m) × (length attrs ≡ n * m)
+    pub open-sizes : (m ≤ 132) × (n ≤ 64) × (length (b .chars) ≡ n * m) × (length (b .attrs) ≡ n * m)
     unfolding sizeTests
     open-sizes =
-        let passed = all-pass (sizeTests (fresh m n) attrs chars) refl (ap isTaken (sym e ∙ t)) in
-        let b = bounds m n (passed .0) in
-        let c = and-left (eqb (length chars) (n * m)) (eqb (length attrs) (n * m)) (passed .1 .0) in
-        let a = and-right (eqb (length chars) (n * m)) (eqb (length attrs) (n * m)) (passed .1 .0) in
-        (b .0, b .1, eqb-true _ _ c, eqb-true _ _ a)
+        let passed = all-pass (sizeTests (freshFrame m n) b) refl (ap isTaken (sym e ∙ t)) in
+        let sizes = bounds m n (passed .0) in
+        let c = and-left (eqb (length (b .chars)) (n * m)) (eqb (length (b .attrs)) (n * m)) (passed .1 .0) in
+        let a = and-right (eqb (length (b .chars)) (n * m)) (eqb (length (b .attrs)) (n * m)) (passed .1 .0) in
+        (sizes .0, sizes .1, eqb-true _ _ c, eqb-true _ _ a)
 
-    pub open-done : {s : Session} {attrs′ chars′ : List ℕ} → s ≡ fresh m n → attrs′ ≡ formatted 0 (length attrs) 0 attrs
-        → chars′ ≡ erased true attrs 0 (length chars) chars
-        → Settled (opened m n attrs chars) (record { session = s; refusal = Taken; taken = 0; written = 0 }) [] attrs′ chars′
+    pub open-done : {s : Session} {chars attrs : List ℕ} → s ≡ fresh m n → chars ≡ erased true (b .attrs) 0 (length (b .chars)) (b .chars)
+        → attrs ≡ formatted 0 (length (b .attrs)) 0 (b .attrs)
+        → outcome (record { session = s; refusal = Taken; taken = 0; written = 0 }) (screen chars attrs) [] ≡ opened m n b
     unfolding opened
-    open-done p q c =
-        settled-done _ _ _ e t (record {
-          answer-is = rw p;
-          reply-is = refl;
-          attrs-is = q ∙ all-zeros attrs ∙ rw (open-sizes .3);
-          chars-is = c ∙ all-spaces attrs chars ∙ rw (open-sizes .2);
-        })
+    open-done p c q =
+        settled-done _ _ _ e t (rw (p, c, q, all-spaces (b .attrs) (b .chars), all-zeros (b .attrs), open-sizes .2, open-sizes .3))

@@ -1,7 +1,3 @@
-pub mod Frame
-pub mod Decision
-pub mod Writing
-pub mod Reply
+pub mod Lent
 pub mod Apply
-pub mod Settled
 pub mod Take

@@ -1,57 +1,64 @@
--- Host bytes, and one key: what is asked for them to be taken. What is held after what the reader told, and what some bytes do.
+-- Host bytes, and one key: what is asked for them to be taken, and what some bytes do.
 use mathlib.Core.Path.{_≡_}
-use mathlib.Core.List.{List, []}
+use mathlib.Core.List.{List, [], _∷_, _++_}
 use Prim.Native.Nat.{ℕ, _+_, _-_, _≤_, _<_}
-use lib.ListN.{length, getD, take, drop}
-use Rattle.telnet.specs.declared.Phase.{Phase}
-use Rattle.telnet.specs.declared.Event.{Event}
-use Rattle.telnet.specs.declared.Event.the-variants.{Nothing, Data, Negotiation, Begin, Sub, End, EndBare, Lost}
+use lib.ListN.{length, take, drop}
+use Rattle.telnet.specs.declared.Phase.the-variants.{Rest, Inside}
 use Rattle.rules.specs.declared.Held.{Held}
+use Rattle.rules.specs.declared.Frame.{Frame}
 use Rattle.rules.specs.declared.Session.{Session}
 use Rattle.rules.specs.declared.Refusal.the-variants.{Taken}
-use Rattle.rules.specs.Session.{noneHeld}
-use Rattle.rules.specs.Telnet.{holding}
-use Rattle.rules.specs.Effect.{spelledAll}
-use Rattle.rules.specs.Operation.{State, happening, running, takenOf, hostRefusal, keyRefusal}
-use Rattle.det.specs.declared.frame.Frame.{Frame}
+use Rattle.rules.specs.Session.{Screen, State, View, session, state, view}
+use Rattle.rules.specs.Effect.{Effect, spelledAll, changing, quiet}
+use Rattle.rules.specs.Telnet.{holding, hostData}
+use Rattle.rules.specs.Operation.{running, takenOf, hostRefusal, keyRefusal}
 use Rattle.det.specs.declared.take.Turn.{Turn}
-use Rattle.det.specs.Frame.{sessionOf, viewOf, Fits}
-use Rattle.det.specs.Reply.{Room, Emitted}
-use Rattle.det.specs.Settled.{lent}
+use Rattle.command.specs.Frame.{Fits}
+use Rattle.reply.specs.Reply.{Room, Emitted}
 
 -- host bytes would be taken with what is left of the reply buffer from `at` on
-pub record Accepts (s : Session) (attrs chars reply : List ℕ) (at : ℕ) : Type 0 where
-  pub tests : hostRefusal (lent s attrs chars) (drop at reply) ≡ Taken
+pub record Accepts (s : State) (reply : List ℕ) (at : ℕ) : Type 0 where
+  pub tests : hostRefusal s (drop at reply) ≡ Taken
 
 -- a key would be taken
-pub record Permits (s : Session) (attrs chars reply : List ℕ) (code : ℕ) : Type 0 where
-  pub tests : keyRefusal (lent s attrs chars) reply code ≡ Taken
+pub record Permits (s : State) (reply : List ℕ) (code : ℕ) : Type 0 where
+  pub tests : keyRefusal s reply code ≡ Taken
 
--- the bytes held after what the reader told
-unfoldable pub heldAfter : Held → Event → Held
-heldAfter h Nothing = h
-heldAfter h (Data b) = h
-heldAfter h (Negotiation verb option) = h
-heldAfter h (Begin option) = noneHeld
-heldAfter h (Sub option b) = holding h b
-heldAfter h (End option) = noneHeld
-heldAfter h EndBare = noneHeld
-heldAfter h Lost = noneHeld
+-- the frame is the screen's, and the effect's reply fits from `at` on
+pub record Answerable (e : Effect) (f : Frame) (b : Screen) (reply : List ℕ) (at : ℕ) : Type 0 where
+  pub fits : Fits (view f (b .attrs))
+  pub long : length (b .chars) ≡ length (b .attrs)
+  pub room : Room reply at (spelledAll (b .chars) (e .reply))
 
--- What is sent on what the reader told, wherever it stands then, fits into the reply from `at` on.
-pub record Answerable (f : Frame) (attrs chars reply : List ℕ) (held : Held) (event : Event) (at : ℕ) : Type 0 where
-  pub fits : Fits f attrs
-  pub long : length chars ≡ length attrs
-  pub phase : Phase
-  pub room : Room reply at (spelledAll chars ((happening (viewOf f phase held attrs) event) .reply))
+-- the reader at rest, and in a subnegotiation
+abbrev pub atRest : Frame → Held → Session
+atRest f held = session f (record { phase = Rest; held = held })
+
+abbrev pub insideOf : Frame → ℕ → Held → Session
+insideOf f option held = session f (record { phase = Inside option; held = held })
 
 -- ---- some bytes of the input
 
 abbrev pub part : ℕ → ℕ → List ℕ → List ℕ
 part from end input = take (end - from) (drop from input)
 
--- Those from `from` to `end` are taken, and lead from s to s′; their replies are written from `at` on. Of the rest as many are taken as the rules say.
-pub record Taking (s : State) (input : List ℕ) (from : ℕ) (reply : List ℕ) (at : ℕ) (s′ : State) (end : ℕ) (reply′ : List ℕ) (at′ : ℕ) : Type 0 where
+-- host data, one byte after the other
+unfoldable pub hostText : View → List ℕ → Effect
+hostText v [] = quiet v
+hostText v (b ∷ bs) =
+    let one = hostData v b in
+    let rest = hostText (one .view) bs in
+    changing (rest .view) (one .changes ++ rest .changes)
+
+-- a subnegotiation's bytes, held one after the other
+unfoldable pub holdingAll : Held → List ℕ → Held
+holdingAll h [] = h
+holdingAll h (b ∷ bs) = holdingAll (holding h b) bs
+
+-- Those from `from` to `end` are taken, and lead from s to s′; their replies are written from `at` on. Of the rest as many are
+-- taken as the rules say.
+pub record Taking (s : State) (input : List ℕ) (from : ℕ) (reply : List ℕ) (at : ℕ)
+    (s′ : State) (end : ℕ) (reply′ : List ℕ) (at′ : ℕ) : Type 0 where
   pub onward : from ≤ end
   pub within : end ≤ length input
   pub room : at′ ≤ length reply
@@ -65,21 +72,17 @@ pub record QuietRun (s : State) (input : List ℕ) (from : ℕ) (s′ : State) (
   pub within : end ≤ length input
   pub ran : running s (part from end input) ≡ record { state = s′; replies = []; executed = [] }
 
--- what stands there, if anything, is IAC
-abbrev pub AtIac : List ℕ → ℕ → Type 0
-AtIac input i = i < length input → getD input i 0 ≡ 255
-
 -- where a turn leaves the terminal
-abbrev pub turnedTo : Turn → List ℕ → List ℕ → State
-turnedTo t attrs chars = lent (sessionOf (t .frame) (t .phase) (t .held)) attrs chars
+abbrev pub turnedTo : Turn → Screen → State
+turnedTo t b = state (session (t .frame) (t .reader)) b
 
 -- a turn that takes some bytes
-pub record Turned (s : State) (input : List ℕ) (from : ℕ) (reply : List ℕ) (at : ℕ) (t : Turn) (reply′ attrs chars : List ℕ) : Type 0 where
-  pub taking : Taking s input from reply at (turnedTo t attrs chars) (t .end) reply′ (t .written)
+pub record Turned (s : State) (input : List ℕ) (from : ℕ) (reply : List ℕ) (at : ℕ) (t : Turn) (b : Screen) (reply′ : List ℕ) : Type 0 where
+  pub taking : Taking s input from reply at (turnedTo t b) (t .end) reply′ (t .written)
   pub further : from < t .end
 
 -- one that draws no reply
-pub record QuietTurn (s : State) (input : List ℕ) (from at : ℕ) (t : Turn) (attrs chars : List ℕ) : Type 0 where
-  pub run : QuietRun s input from (turnedTo t attrs chars) (t .end)
+pub record QuietTurn (s : State) (input : List ℕ) (from at : ℕ) (t : Turn) (b : Screen) : Type 0 where
+  pub run : QuietRun s input from (turnedTo t b) (t .end)
   pub further : from < t .end
   pub same : t .written ≡ at

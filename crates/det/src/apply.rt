@@ -1,19 +1,18 @@
 // A decision, applied: the reply is written from the characters as they are, then the characters change, then the attribute bytes.
 ghost use mathlib.Core.Path.{_≡_};
-ghost use Rattle.telnet.specs.declared.Phase.{Phase};
-ghost use Rattle.rules.specs.declared.Held.{Held};
 ghost use Rattle.rules.specs.Effect.{changedAll};
-ghost use Rattle.det.specs.Frame.{sessionOf, viewOf};
-ghost use Rattle.det.specs.Decision.{changeOf, editsOf, attrsOf, meant};
-ghost use Rattle.det.specs.Reply.{Sayable};
+ghost use Rattle.command.specs.Frame.{seen};
+ghost use Rattle.decide.specs.Decision.{changeOf, editsOf, attrsOf, meant};
+ghost use Rattle.reply.specs.Reply.{Sayable};
+ghost use Rattle.det.specs.Lent.{lent};
 ghost use Rattle.det.specs.Apply.{Changes, Applies};
 use crate::data::put;
 use crate::data::put_character;
-use crate::decision::Change;
-use crate::decision::Decision;
-use crate::decision::Format;
-use crate::frame::Frame;
-use crate::reply::write_reply;
+use decide::decision::Change;
+use decide::decision::Decision;
+use decide::decision::Format;
+use reply::write_reply;
+use rules::Frame;
 use screen::edit::erase;
 use screen::edit::format;
 use screen::edit::shift_range;
@@ -42,7 +41,8 @@ fn change_cells(change: Change, chars: &mut [u8], attrs: &[u8])
 
 // 37: a host character so many times.
 fn repeat(frame: Frame, count: u8, byte: u8, chars: &mut [u8], attrs: &[u8]) -> Frame
-    ensures { λ r. ⌜ ((phase : Phase) (held : Held) → Changes (changeOf (viewOf frame phase held (now (attrs .entry))) (Change.Repeat count byte)) (now (attrs .entry)) (now (chars .entry)) (sessionOf r phase held) (now (chars .exit))) ⌝ }
+    ensures { λ r. ⌜ Changes (changeOf (seen frame (attrs .entry)) (Change.Repeat count byte))
+        (lent (chars .entry) (attrs .entry)) r (now (chars .exit)) ⌝ }
 {
     let mut now = frame;
     let mut left = count;
@@ -55,7 +55,7 @@ fn repeat(frame: Frame, count: u8, byte: u8, chars: &mut [u8], attrs: &[u8]) -> 
 
 // The frame afterwards: REPEAT moves the cursor as it writes.
 pub(crate) fn change_chars(frame: Frame, change: Change, chars: &mut [u8], attrs: &[u8]) -> Frame
-    ensures { λ r. ⌜ ((phase : Phase) (held : Held) → Changes (changeOf (viewOf frame phase held (now (attrs .entry))) change) (now (attrs .entry)) (now (chars .entry)) (sessionOf r phase held) (now (chars .exit))) ⌝ }
+    ensures { λ r. ⌜ Changes (changeOf (seen frame (attrs .entry)) change) (lent (chars .entry) (attrs .entry)) r (now (chars .exit)) ⌝ }
 {
     let Change::Repeat { count, byte } = change else {
         change_cells(change, chars, attrs);
@@ -81,7 +81,9 @@ pub(crate) fn apply(
     at: usize,
 ) -> Applied
     requires { ⌜ Sayable (decision .say) (now chars) (now attrs) (now reply) at ⌝ }
-    ensures { λ r. ⌜ ((phase : Phase) (held : Held) → Applies (meant phase held (now (attrs .entry)) decision) (now (chars .entry)) (now (attrs .entry)) (now (reply .entry)) at (sessionOf (r .frame) phase held) (now (chars .exit)) (now (attrs .exit)) (now (reply .exit)) (r .written)) ⌝ }
+    ensures { λ r. ⌜ Applies (meant (now (attrs .entry)) decision)
+        (lent (chars .entry) (attrs .entry)) (now (reply .entry)) at
+        r (lent (chars .exit) (attrs .exit)) (now (reply .exit)) ⌝ }
 {
     let say = decision.say;
     let next = write_reply(say, chars, attrs, reply, at);

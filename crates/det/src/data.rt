@@ -1,21 +1,18 @@
 // Host data, done: characters are written into their cells, and the cursor moves.
 ghost use mathlib.Core.Path.{_≡_};
-ghost use Prim.Native.Nat.{_≤_};
-ghost use lib.ListN.{length, set};
-ghost use Rattle.telnet.specs.declared.Phase.{Phase};
-ghost use Rattle.rules.specs.declared.Held.{Held};
+ghost use lib.ListN.{set};
+ghost use Rattle.telnet.specs.Stream.{dataEnd};
 ghost use Rattle.rules.specs.Telnet.{hostCharacter, hostData};
-ghost use Rattle.det.specs.Frame.{sessionOf, viewOf};
+ghost use Rattle.command.specs.Frame.{seen};
+ghost use Rattle.det.specs.Lent.{lent};
 ghost use Rattle.det.specs.Apply.{Changes};
-ghost use Rattle.det.specs.Settled.{lent};
-ghost use Rattle.det.specs.Take.{QuietRun, AtIac};
-use crate::frame::Frame;
-use crate::frame::cursor_cell;
-use crate::text::Fate;
-use crate::text::Writer;
-use crate::text::effect;
-use crate::text::is_printable;
-use crate::text::write;
+ghost use Rattle.det.specs.Take.{part, hostText};
+use command::code::is_printable;
+use command::frame::cursor_cell;
+use decide::text::Fate;
+use decide::text::effect;
+use decide::text::write_host;
+use rules::Frame;
 
 // A cell takes a character, where there is such a cell.
 pub(crate) fn put(chars: &mut [u8], cell: usize, byte: u8)
@@ -28,9 +25,9 @@ pub(crate) fn put(chars: &mut [u8], cell: usize, byte: u8)
 
 // One character from the host: the frame after it.
 pub(crate) fn put_character(frame: Frame, byte: u8, chars: &mut [u8], attrs: &[u8]) -> Frame
-    ensures { λ r. ⌜ ((phase : Phase) (held : Held) → Changes (hostCharacter (viewOf frame phase held (now (attrs .entry))) byte) (now (attrs .entry)) (now (chars .entry)) (sessionOf r phase held) (now (chars .exit))) ⌝ }
+    ensures { λ r. ⌜ Changes (hostCharacter (seen frame (attrs .entry)) byte) (lent (chars .entry) (attrs .entry)) r (now (chars .exit)) ⌝ }
 {
-    let writing = write(frame, attrs, Writer::Host, byte);
+    let writing = write_host(frame, attrs, byte);
     let fate = writing.fate;
     let Fate::Written = fate else {
         return frame;
@@ -41,7 +38,7 @@ pub(crate) fn put_character(frame: Frame, byte: u8, chars: &mut [u8], attrs: &[u
 
 // One byte of host data: the frame after it.
 pub(crate) fn take_data(frame: Frame, byte: u8, chars: &mut [u8], attrs: &[u8]) -> Frame
-    ensures { λ r. ⌜ ((phase : Phase) (held : Held) → Changes (hostData (viewOf frame phase held (now (attrs .entry))) byte) (now (attrs .entry)) (now (chars .entry)) (sessionOf r phase held) (now (chars .exit))) ⌝ }
+    ensures { λ r. ⌜ Changes (hostData (seen frame (attrs .entry)) byte) (lent (chars .entry) (attrs .entry)) r (now (chars .exit)) ⌝ }
 {
     let text = is_printable(byte);
     if text {
@@ -56,8 +53,7 @@ pub struct Run {
     pub end: usize,
 }
 
-// The reader is at rest: all that stands in the input from a place on, up to an IAC, is data. Taken without a word to the reader, it does
-// what its bytes do one after the other.
+// Data from a place in the input on, up to the next IAC: it does what its bytes do one after the other.
 pub(crate) fn take_run(
     frame: Frame,
     input: &[u8],
@@ -65,9 +61,9 @@ pub(crate) fn take_run(
     chars: &mut [u8],
     attrs: &[u8],
 ) -> Run
-    requires { ⌜ from ≤ length (now input) ⌝ }
-    ensures { λ r. ⌜ ((held : Held) → QuietRun (lent (sessionOf frame Phase.Rest held) (now (attrs .entry)) (now (chars .entry))) (now (input .entry)) from (lent (sessionOf (r .frame) Phase.Rest held) (now (attrs .entry)) (now (chars .exit))) (r .end)) ⌝ }
-    ensures { λ r. ⌜ AtIac (now (input .entry)) (r .end) ⌝ }
+    ensures { λ r. ⌜ r .end ≡ dataEnd (now (input .entry)) from ⌝ }
+    ensures { λ r. ⌜ Changes (hostText (seen frame (attrs .entry)) (part from (r .end) (now (input .entry))))
+        (lent (chars .entry) (attrs .entry)) (r .frame) (now (chars .exit)) ⌝ }
 {
     let mut now = frame;
     let mut at = from;

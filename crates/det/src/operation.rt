@@ -1,23 +1,23 @@
 // The three operations: open, host bytes, one key. They ask nothing of their caller.
 ghost use mathlib.Core.Path.{_≡_};
 ghost use mathlib.Core.List.{[]};
-ghost use Rattle.rules.specs.Session.{fresh};
-ghost use Rattle.rules.specs.Operation.{opened, hostBytes, keyRefusal, oneKey};
-ghost use Rattle.det.specs.Settled.{lent, Settled, refusedAnswer, hostTaken, keyTaken};
+ghost use Rattle.rules.specs.Session.{fresh, state};
+ghost use Rattle.rules.specs.Operation.{outcome, opened, hostBytes, keyRefusal, oneKey};
+ghost use Rattle.det.specs.Lent.{lent, refusedAnswer, hostTaken, keyTaken};
 ghost use Rattle.det.specs.Take.{Accepts, Permits};
 use crate::apply::change_chars;
-use crate::frame::frame_of;
-use crate::frame::session_of;
-use crate::held::none;
-use crate::keys::key_of;
-use crate::keys::press;
-use crate::keys::refuse_pressed;
 use crate::refuse::refuse;
 use crate::refuse::refuse_sizes;
 use crate::refuse::reply_room;
-use crate::reply::write_reply;
 use crate::take::take_turn;
+use command::held::none;
+use decide::keys::key_of;
+use decide::keys::press;
+use decide::keys::refuse_pressed;
+use reply::write_reply;
 use rules::Answer;
+use rules::Frame;
+use rules::Reader;
 use rules::Refusal;
 use rules::Session;
 use screen::cell::Column;
@@ -33,16 +33,20 @@ fn fresh_session(width: u8, height: u8) -> Session
 {
     let held = none();
     Session {
-        width: width,
-        height: height,
-        cursor: Place {
-            x: Column(0),
-            y: Line(0),
+        frame: Frame {
+            width: width,
+            height: height,
+            cursor: Place {
+                x: Column(0),
+                y: Line(0),
+            },
+            det: false,
+            suppressed: false,
         },
-        det: false,
-        suppressed: false,
-        phase: Phase::Rest,
-        held: held,
+        reader: Reader {
+            phase: Phase::Rest,
+            held: held,
+        },
     }
 }
 
@@ -66,37 +70,29 @@ fn take_all(
     attrs: &mut [u8],
     reply: &mut [u8],
 ) -> Answer
-    requires { ⌜ Accepts session (now attrs) (now chars) (now reply) 0 ⌝ }
-    ensures { λ r. ⌜ Settled (hostTaken (lent session (now (attrs .entry)) (now (chars .entry))) (now (reply .entry)) (now (input .entry))) r (now (reply .exit)) (now (attrs .exit)) (now (chars .exit)) ⌝ }
+    requires { ⌜ Accepts (state session (lent chars attrs)) (now reply) 0 ⌝ }
+    ensures { λ r. ⌜ outcome r (lent (chars .exit) (attrs .exit)) (now (reply .exit))
+        ≡ hostTaken (state session (lent (chars .entry) (attrs .entry))) (now (reply .entry)) (now (input .entry)) ⌝ }
 {
-    let mut frame = frame_of(session);
-    let mut phase = session.phase;
-    let mut held = session.held;
+    let mut frame = session.frame;
+    let mut reader = session.reader;
     let mut taken = 0;
     let mut written = 0;
     while taken < input.len() {
-        if reply.len() - written < reply_room(frame.width, frame.height) {
+        if reply.len() - written < reply_room(frame) {
             break;
         }
-        let turn = take_turn(
-            frame,
-            phase,
-            held,
-            input,
-            taken,
-            chars,
-            attrs,
-            reply,
-            written,
-        );
+        let turn = take_turn(frame, reader, input, taken, chars, attrs, reply, written);
         frame = turn.frame;
-        phase = turn.phase;
-        held = turn.held;
+        reader = turn.reader;
         taken = turn.end;
         written = turn.written;
     }
     Answer {
-        session: session_of(frame, phase, held),
+        session: Session {
+            frame: frame,
+            reader: reader,
+        },
         refusal: Refusal::Taken,
         taken: taken,
         written: written,
@@ -105,32 +101,34 @@ fn take_all(
 
 // Refusals 1 to 5, then 9, 8, 6 and 7.
 fn refuse_key(session: Session, code: u8, chars: &[u8], attrs: &[u8], reply: &[u8]) -> Refusal
-    ensures { λ r. ⌜ r ≡ keyRefusal (lent session (now (attrs .entry)) (now (chars .entry))) (now (reply .entry)) code ⌝ }
+    ensures { λ r. ⌜ r ≡ keyRefusal (state session (lent (chars .entry) (attrs .entry))) (now (reply .entry)) code ⌝ }
 {
     let why = refuse(session, chars, attrs, reply);
     let Refusal::Taken = why else {
         return why;
     };
-    let frame = frame_of(session);
     let meaning = key_of(code);
-    refuse_pressed(frame, attrs, meaning)
+    refuse_pressed(session.frame, attrs, meaning)
 }
 
 // A key that is not refused.
 fn take_key(session: Session, code: u8, chars: &mut [u8], attrs: &[u8], reply: &mut [u8]) -> Answer
-    requires { ⌜ Permits session (now attrs) (now chars) (now reply) code ⌝ }
-    ensures { λ r. ⌜ Settled (keyTaken (lent session (now (attrs .entry)) (now (chars .entry))) (now (reply .entry)) code) r (now (reply .exit)) (now (attrs .entry)) (now (chars .exit)) ⌝ }
+    requires { ⌜ Permits (state session (lent chars attrs)) (now reply) code ⌝ }
+    ensures { λ r. ⌜ outcome r (lent (chars .exit) (attrs .entry)) (now (reply .exit))
+        ≡ keyTaken (state session (lent (chars .entry) (attrs .entry))) (now (reply .entry)) code ⌝ }
 {
     let meaning = key_of(code);
-    let decision = press(frame_of(session), attrs, meaning);
+    let decision = press(session.frame, attrs, meaning);
     let say = decision.say;
     let written = write_reply(say, chars, attrs, reply, 0);
     let change = decision.change;
     let frame = change_chars(decision.frame, change, chars, attrs);
-    let phase = session.phase;
-    let held = session.held;
+    let reader = session.reader;
     Answer {
-        session: session_of(frame, phase, held),
+        session: Session {
+            frame: frame,
+            reader: reader,
+        },
         refusal: Refusal::Taken,
         taken: 1,
         written: written,
@@ -140,7 +138,7 @@ fn take_key(session: Session, code: u8, chars: &mut [u8], attrs: &[u8], reply: &
 // A fresh session of these sizes, a space in every cell and every attribute byte 0. The sizes are wide, so that nothing a caller passes
 // is cut off.
 pub fn open(width: usize, height: usize, chars: &mut [u8], attrs: &mut [u8]) -> Answer
-    ensures { λ r. ⌜ Settled (opened width height (now (attrs .entry)) (now (chars .entry))) r [] (now (attrs .exit)) (now (chars .exit)) ⌝ }
+    ensures { λ r. ⌜ outcome r (lent (chars .exit) (attrs .exit)) [] ≡ opened width height (lent (chars .entry) (attrs .entry)) ⌝ }
 {
     let why = refuse_sizes(width, height, chars, attrs);
     let Refusal::Taken = why else {
@@ -165,7 +163,8 @@ pub fn host_bytes(
     attrs: &mut [u8],
     reply: &mut [u8],
 ) -> Answer
-    ensures { λ r. ⌜ Settled (hostBytes (lent session (now (attrs .entry)) (now (chars .entry))) (now (reply .entry)) (now (input .entry))) r (now (reply .exit)) (now (attrs .exit)) (now (chars .exit)) ⌝ }
+    ensures { λ r. ⌜ outcome r (lent (chars .exit) (attrs .exit)) (now (reply .exit))
+        ≡ hostBytes (state session (lent (chars .entry) (attrs .entry))) (now (reply .entry)) (now (input .entry)) ⌝ }
 {
     let why = refuse(session, chars, attrs, reply);
     let Refusal::Taken = why else {
@@ -176,7 +175,8 @@ pub fn host_bytes(
 
 // One key of the operator.
 pub fn key(session: Session, code: u8, chars: &mut [u8], attrs: &[u8], reply: &mut [u8]) -> Answer
-    ensures { λ r. ⌜ Settled (oneKey (lent session (now (attrs .entry)) (now (chars .entry))) (now (reply .entry)) code) r (now (reply .exit)) (now (attrs .entry)) (now (chars .exit)) ⌝ }
+    ensures { λ r. ⌜ outcome r (lent (chars .exit) (attrs .entry)) (now (reply .exit))
+        ≡ oneKey (state session (lent (chars .entry) (attrs .entry))) (now (reply .entry)) code ⌝ }
 {
     let why = refuse_key(session, code, chars, attrs, reply);
     let Refusal::Taken = why else {

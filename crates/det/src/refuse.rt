@@ -1,10 +1,11 @@
 // What every operation asks of its sizes, session and buffers, in document 01's order.
 ghost use mathlib.Core.Path.{_≡_};
-ghost use Rattle.rules.specs.Session.{sizesOk, replyRoom, fresh, allPrintable, sessionOk};
+ghost use Rattle.rules.specs.Session.{sizesOk, replyRoom, freshFrame, allPrintable, sessionOk, state};
 ghost use Rattle.rules.specs.Refusal.{verdict, sizeTests, stateTests};
 ghost use Rattle.rules.specs.Operation.{hostRefusal};
-ghost use Rattle.det.specs.Settled.{lent};
-use crate::text::is_printable;
+ghost use Rattle.det.specs.Lent.{lent};
+use command::code::is_printable;
+use rules::Frame;
 use rules::Refusal;
 use rules::Session;
 use screen::cell::on_screen;
@@ -40,24 +41,25 @@ fn all_printable(chars: &[u8]) -> bool
 fn session_ok(session: Session) -> bool
     ensures { λ r. ⌜ r ≡ sessionOk session ⌝ }
 {
-    let cursor = session.cursor;
-    let inside = on_screen(session.width, session.height, cursor);
+    let frame = session.frame;
+    let cursor = frame.cursor;
+    let inside = on_screen(frame.width, frame.height, cursor);
     if !inside {
         return false;
     }
-    session.held.count <= 6
+    session.reader.held.count <= 6
 }
 
 // The worst single reply: 7C + 2.
-pub(crate) fn reply_room(width: u8, height: u8) -> usize
-    ensures { λ r. ⌜ r ≡ replyRoom (fresh width height) ⌝ }
+pub(crate) fn reply_room(frame: Frame) -> usize
+    ensures { λ r. ⌜ r ≡ replyRoom frame ⌝ }
 {
-    7 * (height as usize * width as usize) + 2
+    7 * (frame.height as usize * frame.width as usize) + 2
 }
 
 // Refusals 1 and 2, all that open has.
 pub(crate) fn refuse_sizes(m: usize, n: usize, chars: &[u8], attrs: &[u8]) -> Refusal
-    ensures { λ r. ⌜ r ≡ verdict (sizeTests (fresh m n) (now (attrs .entry)) (now (chars .entry))) ⌝ }
+    ensures { λ r. ⌜ r ≡ verdict (sizeTests (freshFrame m n) (lent (chars .entry) (attrs .entry))) ⌝ }
 {
     let sized = sizes_ok(m, n);
     if !sized {
@@ -84,7 +86,7 @@ fn refuse_state(session: Session, chars: &[u8], reply: &[u8]) -> Refusal
     if !sound {
         return Refusal::BadSession;
     }
-    if reply.len() < reply_room(session.width, session.height) {
+    if reply.len() < reply_room(session.frame) {
         return Refusal::ReplyRoom;
     }
     Refusal::Taken
@@ -92,11 +94,11 @@ fn refuse_state(session: Session, chars: &[u8], reply: &[u8]) -> Refusal
 
 // Refusals 1 to 5, of host bytes and of a key.
 pub(crate) fn refuse(session: Session, chars: &[u8], attrs: &[u8], reply: &[u8]) -> Refusal
-    ensures { λ r. ⌜ r ≡ hostRefusal (lent session (now (attrs .entry)) (now (chars .entry))) (now (reply .entry)) ⌝ }
+    ensures { λ r. ⌜ r ≡ hostRefusal (state session (lent (chars .entry) (attrs .entry))) (now (reply .entry)) ⌝ }
 {
     let why = refuse_sizes(
-        session.width as usize,
-        session.height as usize,
+        session.frame.width as usize,
+        session.frame.height as usize,
         chars,
         attrs,
     );

@@ -1,58 +1,34 @@
 // Host bytes, a turn at a time: a run of data, a run of a subnegotiation's bytes, or one byte that is read and what it told, done.
 ghost use mathlib.Core.Path.{_≡_};
-ghost use mathlib.Core.Bool.{_&&_};
-ghost use mathlib.Core.List.{List};
-ghost use Prim.Native.Nat.{ℕ, _<_};
-ghost use lib.Dec.{eqb};
+ghost use Prim.Native.Nat.{_<_};
 ghost use lib.ListN.{length};
-ghost use Rattle.screen.specs.Words.{if_then_else_};
-ghost use Rattle.rules.specs.Effect.{quiet};
-ghost use Rattle.rules.specs.Subcommand.{subcommand};
-ghost use Rattle.telnet.specs.declared.Phase.{Phase};
+ghost use Rattle.rules.specs.Session.{Screen, session, state};
 ghost use Rattle.rules.specs.Operation.{happening};
-ghost use Rattle.det.specs.Frame.{sessionOf, viewOf, Fits};
-ghost use Rattle.det.specs.Decision.{Decides};
+ghost use Rattle.command.specs.Frame.{seen};
+ghost use Rattle.det.specs.Lent.{lent};
 ghost use Rattle.det.specs.Apply.{Applies};
-ghost use Rattle.det.specs.Take.{Accepts, Answerable, heldAfter, Turned, QuietTurn};
-ghost use Rattle.det.specs.Settled.{lent};
+ghost use Rattle.det.specs.Take.{Accepts, Answerable, atRest, insideOf, Turned, QuietTurn};
 use crate::apply::Applied;
 use crate::apply::apply;
 use crate::data::take_data;
 use crate::data::take_run;
-use crate::decision::Decision;
-use crate::decision::quiet;
-use crate::frame::Frame;
-use crate::held::hold;
 use crate::held::hold_run;
-use crate::held::none;
-use crate::negotiate::negotiate;
-use crate::obey::obey_held;
+use command::held::held_after;
+use decide::negotiate::negotiate;
+use decide::obey::decide_end;
+use rules::Frame;
 use rules::Held;
+use rules::Reader;
 use telnet::Event;
 use telnet::Phase;
 use telnet::read;
 
-// Where some bytes leave the terminal, where they end in the input, and where the next reply goes.
+// Where some bytes leave the frame and the reader, where they end in the input, and where the next reply goes.
 pub struct Turn {
     pub frame: Frame,
-    pub phase: Phase,
-    pub held: Held,
+    pub reader: Reader,
     pub end: usize,
     pub written: usize,
-}
-
-// A subnegotiation that ended: obeyed if it was option 20's and DET is on.
-fn decide_end(frame: Frame, attrs: &[u8], held: Held, option: u8) -> Decision
-    requires { ⌜ Fits frame (now attrs) ⌝ }
-    ensures { λ r. ⌜ Decides frame (now (attrs .entry)) r (λ v. if eqb option 20 && v .session .det then subcommand v held else quiet v) ⌝ }
-{
-    if option != 20 {
-        return quiet(frame);
-    }
-    if frame.det {
-        return obey_held(frame, attrs, held);
-    }
-    quiet(frame)
 }
 
 fn nothing(frame: Frame, at: usize) -> Applied
@@ -74,8 +50,10 @@ fn happen(
     reply: &mut [u8],
     at: usize,
 ) -> Applied
-    requires { ⌜ Answerable frame (now attrs) (now chars) (now reply) held event at ⌝ }
-    ensures { λ r. ⌜ ((phase : Phase) → Applies (happening (viewOf frame phase held (now (attrs .entry))) event) (now (chars .entry)) (now (attrs .entry)) (now (reply .entry)) at (sessionOf (r .frame) phase (heldAfter held event)) (now (chars .exit)) (now (attrs .exit)) (now (reply .exit)) (r .written)) ⌝ }
+    requires { ⌜ Answerable (happening (seen frame attrs) held event) frame (lent chars attrs) (now reply) at ⌝ }
+    ensures { λ r. ⌜ Applies (happening (seen frame (attrs .entry)) held event)
+        (lent (chars .entry) (attrs .entry)) (now (reply .entry)) at
+        r (lent (chars .exit) (attrs .exit)) (now (reply .exit)) ⌝ }
 {
     match event {
         Event::Nothing => nothing(frame, at),
@@ -95,27 +73,10 @@ fn happen(
     }
 }
 
-// The held bytes after what the reader told.
-fn held_after(held: Held, event: Event) -> Held
-    ensures { λ r. ⌜ r ≡ heldAfter held event ⌝ }
-{
-    match event {
-        Event::Nothing => held,
-        Event::Data(_) => held,
-        Event::Negotiation { verb: _, option: _ } => held,
-        Event::Begin(_) => none(),
-        Event::Sub { option: _, byte } => hold(held, byte),
-        Event::End(_) => none(),
-        Event::EndBare => none(),
-        Event::Lost => none(),
-    }
-}
-
 // One byte, by the reader.
 fn take_byte(
     frame: Frame,
-    phase: Phase,
-    held: Held,
+    reader: Reader,
     input: &[u8],
     from: usize,
     chars: &mut [u8],
@@ -123,10 +84,14 @@ fn take_byte(
     reply: &mut [u8],
     at: usize,
 ) -> Turn
-    requires { ⌜ Accepts (sessionOf frame phase held) (now attrs) (now chars) (now reply) at ⌝ }
+    requires { ⌜ Accepts (state (session frame reader) (lent chars attrs)) (now reply) at ⌝ }
     requires { ⌜ from < length (now input) ⌝ }
-    ensures { λ r. ⌜ Turned (lent (sessionOf frame phase held) (now (attrs .entry)) (now (chars .entry))) (now (input .entry)) from (now (reply .entry)) at r (now (reply .exit)) (now (attrs .exit)) (now (chars .exit)) ⌝ }
+    ensures { λ r. ⌜ Turned (state (session frame reader) (lent (chars .entry) (attrs .entry)))
+        (now (input .entry)) from (now (reply .entry)) at
+        r (lent (chars .exit) (attrs .exit)) (now (reply .exit)) ⌝ }
 {
+    let phase = reader.phase;
+    let held = reader.held;
     let step = read(phase, input[from]);
     let event = step.event;
     let done = happen(frame, held, event, chars, attrs, reply, at);
@@ -134,8 +99,10 @@ fn take_byte(
     let next = step.phase;
     Turn {
         frame: after,
-        phase: next,
-        held: held_after(held, event),
+        reader: Reader {
+            phase: next,
+            held: held_after(held, event),
+        },
         end: from + 1,
         written: done.written,
     }
@@ -152,23 +119,28 @@ fn take_text(
     at: usize,
 ) -> Turn
     requires { ⌜ from < length (now input) ⌝ }
-    ensures { λ r. ⌜ QuietTurn (lent (sessionOf frame Phase.Rest held) (now (attrs .entry)) (now (chars .entry))) (now (input .entry)) from at r (now (attrs .entry)) (now (chars .exit)) ⌝ }
+    ensures { λ r. ⌜ QuietTurn (state (atRest frame held) (lent (chars .entry) (attrs .entry))) (now (input .entry)) from at
+        r (lent (chars .exit) (attrs .entry)) ⌝ }
 {
     let run = take_run(frame, input, from, chars, attrs);
     let after = run.frame;
     if run.end < input.len() {
         return Turn {
             frame: after,
-            phase: Phase::Iac,
-            held: held,
+            reader: Reader {
+                phase: Phase::Iac,
+                held: held,
+            },
             end: run.end + 1,
             written: at,
         };
     }
     Turn {
         frame: after,
-        phase: Phase::Rest,
-        held: held,
+        reader: Reader {
+            phase: Phase::Rest,
+            held: held,
+        },
         end: run.end,
         written: at,
     }
@@ -177,23 +149,27 @@ fn take_text(
 // In a subnegotiation: its bytes up to the next IAC, and that IAC.
 fn take_payload(frame: Frame, option: u8, held: Held, input: &[u8], from: usize, at: usize) -> Turn
     requires { ⌜ from < length (now input) ⌝ }
-    ensures { λ r. ⌜ ((attrs chars : List ℕ) → QuietTurn (lent (sessionOf frame (Phase.Inside option) held) attrs chars) (now (input .entry)) from at r attrs chars) ⌝ }
+    ensures { λ r. ⌜ ((b : Screen) → QuietTurn (state (insideOf frame option held) b) (now (input .entry)) from at r b) ⌝ }
 {
     let run = hold_run(held, input, from);
     let after = run.held;
     if run.end < input.len() {
         return Turn {
             frame: frame,
-            phase: Phase::InsideIac(option),
-            held: after,
+            reader: Reader {
+                phase: Phase::InsideIac(option),
+                held: after,
+            },
             end: run.end + 1,
             written: at,
         };
     }
     Turn {
         frame: frame,
-        phase: Phase::Inside(option),
-        held: after,
+        reader: Reader {
+            phase: Phase::Inside(option),
+            held: after,
+        },
         end: run.end,
         written: at,
     }
@@ -202,8 +178,7 @@ fn take_payload(frame: Frame, option: u8, held: Held, input: &[u8], from: usize,
 // A run where the reader stands in one, else a byte: the phase is looked at once for either.
 pub(crate) fn take_turn(
     frame: Frame,
-    phase: Phase,
-    held: Held,
+    reader: Reader,
     input: &[u8],
     from: usize,
     chars: &mut [u8],
@@ -211,13 +186,17 @@ pub(crate) fn take_turn(
     reply: &mut [u8],
     at: usize,
 ) -> Turn
-    requires { ⌜ Accepts (sessionOf frame phase held) (now attrs) (now chars) (now reply) at ⌝ }
+    requires { ⌜ Accepts (state (session frame reader) (lent chars attrs)) (now reply) at ⌝ }
     requires { ⌜ from < length (now input) ⌝ }
-    ensures { λ r. ⌜ Turned (lent (sessionOf frame phase held) (now (attrs .entry)) (now (chars .entry))) (now (input .entry)) from (now (reply .entry)) at r (now (reply .exit)) (now (attrs .exit)) (now (chars .exit)) ⌝ }
+    ensures { λ r. ⌜ Turned (state (session frame reader) (lent (chars .entry) (attrs .entry)))
+        (now (input .entry)) from (now (reply .entry)) at
+        r (lent (chars .exit) (attrs .exit)) (now (reply .exit)) ⌝ }
 {
+    let phase = reader.phase;
+    let held = reader.held;
     match phase {
         Phase::Rest => take_text(frame, held, input, from, chars, attrs, at),
         Phase::Inside(option) => take_payload(frame, option, held, input, from, at),
-        _ => take_byte(frame, phase, held, input, from, chars, attrs, reply, at),
+        _ => take_byte(frame, reader, input, from, chars, attrs, reply, at),
     }
 }

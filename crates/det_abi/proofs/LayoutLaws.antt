@@ -1,8 +1,10 @@
 -- Laws of the layout: a session and its bytes determine each other.
-use mathlib.Core.Path.{_≡_, refl, sym, _∙_}
+use mathlib.Core.Path.{_≡_, refl, sym, ap, _∙_}
 use mathlib.Core.Bool.{Bool, true, false, _&&_, _||_}
 use mathlib.Core.List.{List, [], _∷_, append-nil}
-use Prim.Native.Nat.{ℕ, zero, suc}
+use Prim.Native.Nat.{ℕ, zero, suc, _+_}
+use native.Mathlib.Nat.{zero-add}
+use lib.Seq.{sets, sets-eq}
 use native.Mathlib.Omega.{arith}
 use borrow.Author.Tests.{eqb-true, eqb-false, leb-true, le-leb}
 use lib.Dec.{eqb, leb}
@@ -16,8 +18,9 @@ use Rattle.screen.specs.Edits.{Copied}
 use Rattle.screen.proofs.WordLaws.{true-or-false, and-left, and-right, tabulated}
 use Rattle.rules.specs.declared.Held.{Held}
 use Rattle.rules.specs.declared.Session.{Session}
-use Rattle.det.specs.Reply.{Room}
-use Rattle.det.proofs.ReplyLaws.{copied-whole, emitted-whole}
+use Rattle.rules.specs.Session.{session}
+use Rattle.reply.specs.Pieces.{Buffer, buffer, wroteAll}
+use Rattle.reply.proofs.ReplyLaws.{copied-whole}
 use Rattle.det_abi.specs.Layout.{sessionLength, bitOf, phaseNumber, phaseOption, encoded, byteAt, isSession, phaseOf, decoded}
 
 -- six bytes are those that are read from them
@@ -48,25 +51,25 @@ phase-back OpeningIac = (refl, refl, refl)
 phase-back (Inside option) = (refl, refl, refl)
 phase-back (InsideIac option) = (refl, refl, refl)
 
-module _ (s : Session) (long : length (s .held .bytes) ≡ 6) where
+module _ (s : Session) (long : length (s .reader .held .bytes) ≡ 6) where
   -- a session's bytes are 15
   pub encoded-length : length (encoded s) ≡ sessionLength
   unfolding encoded
-  encoded-length = rw (six (s .held .bytes) long)
+  encoded-length = rw (six (s .reader .held .bytes) long)
 
   -- they are a session
   pub encoded-session : isSession (encoded s) ≡ true
   unfolding isSession encoded
   encoded-session =
-      let p = phase-back (s .phase) in
-      rw (six (s .held .bytes) long, flag-back (s .det) .1, flag-back (s .suppressed) .1, p .1, p .2)
+      let p = phase-back (s .reader .phase) in
+      rw (six (s .reader .held .bytes) long, flag-back (s .frame .det) .1, flag-back (s .frame .suppressed) .1, p .1, p .2)
 
   -- and give it back
   pub decoded-encoded : decoded (encoded s) ≡ s
   unfolding decoded encoded
   decoded-encoded =
-      let bytes = six (s .held .bytes) long in
-      rw (flag-back (s .det) .0, flag-back (s .suppressed) .0, phase-back (s .phase) .0, bytes) (rw (← bytes))
+      let bytes = six (s .reader .held .bytes) long in
+      rw (flag-back (s .frame .det) .0, flag-back (s .frame .suppressed) .0, phase-back (s .reader .phase) .0, bytes) (rw (← bytes))
 
 -- ---- from bytes to a session and back
 
@@ -136,13 +139,18 @@ module _ (b : List ℕ) (h : isSession b ≡ true) where
 -- a session whose parts are read from their places
 pub decoded-is : (b : List ℕ) {width height x y det suppressed : ℕ} {phase : Phase} {held : Held}
     → width ≡ byteAt b 0 → height ≡ byteAt b 1 → x ≡ byteAt b 2 → y ≡ byteAt b 3 → det ≡ byteAt b 4 → suppressed ≡ byteAt b 5
-    → phase ≡ phaseOf (byteAt b 6) (byteAt b 7) → held ≡ decoded b .held
-    → record { width = width; height = height; cursor = place x y; det = eqb det 1; suppressed = eqb suppressed 1; phase = phase; held = held } ≡ decoded b
+    → phase ≡ phaseOf (byteAt b 6) (byteAt b 7) → held ≡ decoded b .reader .held
+    → session (record { width = width; height = height; cursor = place x y; det = eqb det 1; suppressed = eqb suppressed 1 })
+    (record { phase = phase; held = held })
+    ≡ decoded b
 unfolding decoded
 decoded-is b w h x y d s p q = rw (w, h, x, y, d, s, p, q)
 
 -- bytes copied over as many others
 pub copied-over : {xs buf buf′ : List ℕ} {at : ℕ} → length buf ≡ length xs → Copied 0 (length xs) xs buf 0 buf′ at → buf′ ≡ xs
-copied-over {xs} {buf} e c =
-    let room : Room buf 0 xs = record { fits = omega arith } in
-    emitted-whole room (copied-whole c room) ∙ rw (drop-of-length-le buf {i = length xs} (omega arith), append-nil)
+unfolding wroteAll
+copied-over {xs} {buf} {buf′} {at} e c =
+    let fit : leb (0 + length xs) (length buf) ≡ true = le-leb (0 + length xs) (length buf) (omega arith) in
+    let all : buffer buf′ at ≡ buffer (sets buf 0 xs) (0 + length xs) = (copied-whole c) .is ∙ rw fit in
+    let stored : buf′ ≡ sets buf 0 xs = ap (λ (b : Buffer). b .bytes) all in
+    stored ∙ sets-eq xs buf 0 (omega arith) ∙ rw (zero-add, drop-of-length-le buf {i = length xs} (omega arith)) (append-nil xs)

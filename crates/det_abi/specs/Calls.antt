@@ -7,38 +7,35 @@ use lib.Dec.{eqb, ltb}
 use lib.ListN.{length}
 use Rattle.screen.specs.Words.{if_then_else_}
 use Rattle.rules.specs.declared.Answer.{Answer}
+use Rattle.rules.specs.Session.{Screen, state}
 use Rattle.rules.specs.Refusal.{numberOf}
 use Rattle.rules.specs.Operation.{Outcome, opened, hostBytes, oneKey}
-use Rattle.det.specs.Settled.{lent}
 use Rattle.det_abi.specs.Layout.{sessionLength, encoded, isSession, decoded}
 
--- the number answered, the two counts, and the session's bytes and the lent buffers afterwards
+-- the number answered, the session's bytes, the two counts, and the lent buffers afterwards
 pub record Result : Type 0 where
   pub number : ℕ
   pub session : List ℕ
   pub taken : ℕ
   pub written : ℕ
+  pub screen : Screen
   pub reply : List ℕ
-  pub attrs : List ℕ
-  pub chars : List ℕ
 
--- what the rules say, as numbers and bytes: 0 where the call is taken, else the refusal's number
+abbrev pub result : ℕ → List ℕ → ℕ → ℕ → Screen → List ℕ → Result
+result number session taken written b reply =
+    record { number = number; session = session; taken = taken; written = written; screen = b; reply = reply }
+
+-- an answer as numbers and bytes: 0 where the call is taken, else the refusal's number
+abbrev pub given : Answer → Screen → List ℕ → Result
+given a b reply = result (numberOf (a .refusal)) (encoded (a .session)) (a .taken) (a .written) b reply
+
+-- what the rules say
 abbrev pub told : Outcome → Result
-told o =
-    record {
-      number = numberOf (o .answer .refusal);
-      session = encoded (o .answer .session);
-      taken = o .answer .taken;
-      written = o .answer .written;
-      reply = o .reply;
-      attrs = o .attrs;
-      chars = o .chars;
-    }
+told o = given (o .answer) (o .screen) (o .reply)
 
 -- 255, before any other number: the bytes are no session, and all stays as it came
-abbrev pub noSession : List ℕ → List ℕ → List ℕ → List ℕ → Result
-noSession session reply attrs chars =
-    record { number = 255; session = session; taken = 0; written = 0; reply = reply; attrs = attrs; chars = chars }
+abbrev pub noSession : List ℕ → Screen → List ℕ → Result
+noSession session b reply = result 255 session 0 0 b reply
 
 -- done where the test is passed, else refused
 unfoldable pub provided : Bool → Result → Result → Result
@@ -46,29 +43,18 @@ provided true done refused = done
 provided false done refused = refused
 
 -- open wants a place for a session, whatever stands there
-unfoldable pub openCall : ℕ → ℕ → List ℕ → List ℕ → List ℕ → Result
-openCall m n session attrs chars =
-    provided (eqb (length session) sessionLength) (told (opened m n attrs chars)) (noSession session [] attrs chars)
+unfoldable pub openCall : ℕ → ℕ → List ℕ → Screen → Result
+openCall m n session b = provided (eqb (length session) sessionLength) (told (opened m n b)) (noSession session b [])
 
 -- host bytes and a key want the bytes of a session
-unfoldable pub hostCall : List ℕ → List ℕ → List ℕ → List ℕ → List ℕ → Result
-hostCall session input reply attrs chars =
-    provided (isSession session) (told (hostBytes (lent (decoded session) attrs chars) reply input)) (noSession session reply attrs chars)
+unfoldable pub hostCall : List ℕ → List ℕ → Screen → List ℕ → Result
+hostCall session input b reply =
+    provided (isSession session) (told (hostBytes (state (decoded session) b) reply input)) (noSession session b reply)
 
 -- a key is any number; those that are no byte have no meaning
-unfoldable pub keyCall : List ℕ → ℕ → List ℕ → List ℕ → List ℕ → Result
-keyCall session key reply attrs chars =
-    provided (isSession session) (told (oneKey (lent (decoded session) attrs chars) reply key)) (noSession session reply attrs chars)
-
--- all that a call returns and leaves is this result
-pub record Returns (r : Result) (number : ℕ) (session : List ℕ) (taken written : ℕ) (reply attrs chars : List ℕ) : Type 0 where
-  pub number-is : number ≡ r .number
-  pub session-is : session ≡ r .session
-  pub taken-is : taken ≡ r .taken
-  pub written-is : written ≡ r .written
-  pub reply-is : reply ≡ r .reply
-  pub attrs-is : attrs ≡ r .attrs
-  pub chars-is : chars ≡ r .chars
+unfoldable pub keyCall : List ℕ → ℕ → Screen → List ℕ → Result
+keyCall session key b reply =
+    provided (isSession session) (told (oneKey (state (decoded session) b) reply key)) (noSession session b reply)
 
 -- the byte that a key is handed on as: 255 has no meaning either
 abbrev pub keyByte : ℕ → ℕ

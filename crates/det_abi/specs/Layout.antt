@@ -14,6 +14,7 @@ use Rattle.telnet.specs.declared.Phase.the-variants.{Rest, Iac, Negotiating, Op
 use Rattle.screen.specs.Words.{if_then_else_}
 use Rattle.screen.specs.Cells.{place}
 use Rattle.rules.specs.declared.Session.{Session}
+use Rattle.rules.specs.Session.{session}
 
 abbrev pub sessionLength : ℕ
 sessionLength = 15
@@ -48,8 +49,10 @@ phaseOption (InsideIac option) = option
 
 unfoldable pub encoded : Session → List ℕ
 encoded s =
-    s .width ∷ s .height ∷ s .cursor .x .0 ∷ s .cursor .y .0 ∷ bitOf (s .det) ∷ bitOf (s .suppressed)
-    ∷ phaseNumber (s .phase) ∷ phaseOption (s .phase) ∷ (s .held .bytes ++ s .held .count ∷ [])
+    let f = s .frame in
+    let r = s .reader in
+    f .width ∷ f .height ∷ f .cursor .x .0 ∷ f .cursor .y .0 ∷ bitOf (f .det) ∷ bitOf (f .suppressed)
+    ∷ phaseNumber (r .phase) ∷ phaseOption (r .phase) ∷ (r .held .bytes ++ r .held .count ∷ [])
 
 -- ---- and back
 
@@ -77,15 +80,18 @@ phaseOf number option =
 
 unfoldable pub decoded : List ℕ → Session
 decoded bytes =
-    record {
+    session
+    (record {
       width = byteAt bytes 0;
       height = byteAt bytes 1;
       cursor = place (byteAt bytes 2) (byteAt bytes 3);
       det = eqb (byteAt bytes 4) 1;
       suppressed = eqb (byteAt bytes 5) 1;
+    })
+    (record {
       phase = phaseOf (byteAt bytes 6) (byteAt bytes 7);
       held = record {
         bytes = byteAt bytes 8 ∷ byteAt bytes 9 ∷ byteAt bytes 10 ∷ byteAt bytes 11 ∷ byteAt bytes 12 ∷ byteAt bytes 13 ∷ [];
         count = byteAt bytes 14;
       };
-    }
+    })

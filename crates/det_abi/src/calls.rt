@@ -1,11 +1,13 @@
 // The three operations over numbers and byte slices; a caller in C passes a slice as a pointer and a length. They ask nothing of
-// their caller, and return 0 where the call is taken, the refusal's number where the rules refuse it, and 255 where the bytes are no session.
+// their caller, and return 0 where the call is taken, the refusal's number where the rules refuse it, and 255 where the bytes are
+// no session.
 ghost use mathlib.Core.Path.{_≡_};
 ghost use mathlib.Core.List.{[]};
 ghost use lib.ListN.{length};
 ghost use Rattle.rules.specs.Refusal.{numberOf};
 ghost use Rattle.det_abi.specs.Layout.{sessionLength, encoded};
-ghost use Rattle.det_abi.specs.Calls.{openCall, hostCall, keyCall, keyByte, Gives, Returns};
+ghost use Rattle.det.specs.Lent.{lent};
+ghost use Rattle.det_abi.specs.Calls.{result, openCall, hostCall, keyCall, keyByte, Gives};
 use crate::layout::SESSION_LENGTH;
 use crate::layout::decode;
 use crate::layout::encode;
@@ -65,7 +67,8 @@ pub extern "C" fn det_open(
     attrs: &mut [u8],
     session: &mut [u8],
 ) -> u8
-    ensures { λ r. ⌜ Returns (openCall width height (now (session .entry)) (now (attrs .entry)) (now (chars .entry))) r (now (session .exit)) 0 0 [] (now (attrs .exit)) (now (chars .exit)) ⌝ }
+    ensures { λ r. ⌜ result r (now (session .exit)) 0 0 (lent (chars .exit) (attrs .exit)) []
+        ≡ openCall width height (now (session .entry)) (lent (chars .entry) (attrs .entry)) ⌝ }
 {
     if session.len() != SESSION_LENGTH {
         return NO_SESSION;
@@ -85,7 +88,9 @@ pub extern "C" fn det_host(
     taken: &mut usize,
     written: &mut usize,
 ) -> u8
-    ensures { λ r. ⌜ Returns (hostCall (now (session .entry)) (now (input .entry)) (now (reply .entry)) (now (attrs .entry)) (now (chars .entry))) r (now (session .exit)) (now (taken .exit)) (now (written .exit)) (now (reply .exit)) (now (attrs .exit)) (now (chars .exit)) ⌝ }
+    ensures { λ r. ⌜ result r (now (session .exit)) (now (taken .exit)) (now (written .exit))
+        (lent (chars .exit) (attrs .exit)) (now (reply .exit))
+        ≡ hostCall (now (session .entry)) (now (input .entry)) (lent (chars .entry) (attrs .entry)) (now (reply .entry)) ⌝ }
 {
     let known = is_session(session);
     if !known {
@@ -106,7 +111,9 @@ pub extern "C" fn det_key(
     taken: &mut usize,
     written: &mut usize,
 ) -> u8
-    ensures { λ r. ⌜ Returns (keyCall (now (session .entry)) code (now (reply .entry)) (now (attrs .entry)) (now (chars .entry))) r (now (session .exit)) (now (taken .exit)) (now (written .exit)) (now (reply .exit)) (now (attrs .entry)) (now (chars .exit)) ⌝ }
+    ensures { λ r. ⌜ result r (now (session .exit)) (now (taken .exit)) (now (written .exit))
+        (lent (chars .exit) (attrs .entry)) (now (reply .exit))
+        ≡ keyCall (now (session .entry)) code (lent (chars .entry) (attrs .entry)) (now (reply .entry)) ⌝ }
 {
     let known = is_session(session);
     if !known {

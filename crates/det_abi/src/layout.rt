@@ -3,7 +3,9 @@ ghost use mathlib.Core.Path.{_≡_};
 ghost use lib.ListN.{length};
 ghost use Rattle.telnet.specs.declared.Phase.the-variants.{Negotiating};
 ghost use Rattle.det_abi.specs.Layout.{sessionLength, bitOf, phaseNumber, phaseOption, encoded, byteAt, isSession, phaseOf, decoded};
+use rules::Frame;
 use rules::Held;
+use rules::Reader;
 use rules::Session;
 use screen::cell::Column;
 use screen::cell::Line;
@@ -109,7 +111,7 @@ fn byte_at(bytes: &[u8], i: usize) -> u8
 
 // The bytes held after a subnegotiation's option byte, and their count.
 fn held_in(bytes: &[u8]) -> Held
-    ensures { λ r. ⌜ r ≡ (decoded (now (bytes .entry))) .held ⌝ }
+    ensures { λ r. ⌜ r ≡ (decoded (now (bytes .entry))) .reader .held ⌝ }
 {
     Held {
         bytes: [
@@ -131,16 +133,20 @@ pub(crate) fn decode(bytes: &[u8]) -> Session
     let phase = phase_of(byte_at(bytes, 6), byte_at(bytes, 7));
     let held = held_in(bytes);
     Session {
-        width: byte_at(bytes, 0),
-        height: byte_at(bytes, 1),
-        cursor: Place {
-            x: Column(byte_at(bytes, 2)),
-            y: Line(byte_at(bytes, 3)),
+        frame: Frame {
+            width: byte_at(bytes, 0),
+            height: byte_at(bytes, 1),
+            cursor: Place {
+                x: Column(byte_at(bytes, 2)),
+                y: Line(byte_at(bytes, 3)),
+            },
+            det: byte_at(bytes, 4) == 1,
+            suppressed: byte_at(bytes, 5) == 1,
         },
-        det: byte_at(bytes, 4) == 1,
-        suppressed: byte_at(bytes, 5) == 1,
-        phase: phase,
-        held: held,
+        reader: Reader {
+            phase: phase,
+            held: held,
+        },
     }
 }
 
@@ -149,15 +155,17 @@ pub(crate) fn encode(session: Session, bytes: &mut [u8])
     requires { ⌜ length (now bytes) ≡ sessionLength ⌝ }
     ensures { λ _. ⌜ now (bytes .exit) ≡ encoded session ⌝ }
 {
-    let phase = session.phase;
-    let held = session.held.bytes;
+    let frame = session.frame;
+    let reader = session.reader;
+    let phase = reader.phase;
+    let held = reader.held.bytes;
     let spelled = [
-        session.width,
-        session.height,
-        session.cursor.x.0,
-        session.cursor.y.0,
-        bit(session.det),
-        bit(session.suppressed),
+        frame.width,
+        frame.height,
+        frame.cursor.x.0,
+        frame.cursor.y.0,
+        bit(frame.det),
+        bit(frame.suppressed),
         phase_number(phase),
         phase_option(phase),
         held[0],
@@ -166,7 +174,7 @@ pub(crate) fn encode(session: Session, bytes: &mut [u8])
         held[3],
         held[4],
         held[5],
-        session.held.count,
+        reader.held.count,
     ];
     copy_text(&spelled, 0, SESSION_LENGTH, bytes, 0);
 }

@@ -1,8 +1,12 @@
 // The session and the lengths of the lent buffers, and what each order does to them.
 use crate::number::least;
 use crate::order::Order;
+use command::frame::moved;
+use command::frame::switched;
 use rules::Answer;
+use rules::Frame;
 use rules::Held;
+use rules::Reader;
 use rules::Session;
 use screen::cell::Column;
 use screen::cell::Line;
@@ -68,6 +72,53 @@ pub fn fresh(chars: &mut [u8], attrs: &mut [u8]) -> Desk {
     open(0, 0, chars, 0, attrs, 0)
 }
 
+// Each of the next cuts one lent buffer to its length, and hands on: a function that cuts four at once takes ten times as long to prove.
+fn host_reply(
+    session: Session,
+    input: &[u8],
+    chars: &mut [u8],
+    attrs: &mut [u8],
+    reply: &mut [u8],
+    room: usize,
+) -> Answer {
+    let n = least(room, reply.len());
+    det::operation::host_bytes(session, input, chars, attrs, &mut reply[0..n])
+}
+
+fn host_attrs(
+    session: Session,
+    input: &[u8],
+    chars: &mut [u8],
+    attrs: &mut [u8],
+    length: usize,
+    reply: &mut [u8],
+    room: usize,
+) -> Answer {
+    let n = least(length, attrs.len());
+    host_reply(session, input, chars, &mut attrs[0..n], reply, room)
+}
+
+fn host_chars(
+    desk: Desk,
+    input: &[u8],
+    chars: &mut [u8],
+    attrs: &mut [u8],
+    reply: &mut [u8],
+    room: usize,
+) -> Answer {
+    let last = desk.answer;
+    let n = least(desk.chars, chars.len());
+    host_attrs(
+        last.session,
+        input,
+        &mut chars[0..n],
+        attrs,
+        desk.attrs,
+        reply,
+        room,
+    )
+}
+
 fn host(
     desk: Desk,
     input: &[u8],
@@ -78,18 +129,8 @@ fn host(
     room: usize,
 ) -> Desk {
     fill(reply, room, REPLY);
-    let last = desk.answer;
-    let i = least(count, input.len());
-    let c = least(desk.chars, chars.len());
-    let a = least(desk.attrs, attrs.len());
-    let r = least(room, reply.len());
-    let answer = det::operation::host_bytes(
-        last.session,
-        &input[0..i],
-        &mut chars[0..c],
-        &mut attrs[0..a],
-        &mut reply[0..r],
-    );
+    let n = least(count, input.len());
+    let answer = host_chars(desk, &input[0..n], chars, attrs, reply, room);
     Desk {
         answer: answer,
         chars: desk.chars,
@@ -142,6 +183,19 @@ fn session_of(desk: Desk) -> Session {
     answer.session
 }
 
+// The desk with another frame; the reader stays where it is.
+fn with_frame(desk: Desk, frame: Frame) -> Desk {
+    let session = session_of(desk);
+    let reader = session.reader;
+    with_session(
+        desk,
+        Session {
+            frame: frame,
+            reader: reader,
+        },
+    )
+}
+
 fn set_chars(desk: Desk, from: &[u8], chars: &mut [u8], length: usize) -> Desk {
     copy(from, chars, length);
     let mut desk = desk;
@@ -157,37 +211,44 @@ fn set_attrs(desk: Desk, from: &[u8], attrs: &mut [u8], length: usize) -> Desk {
 }
 
 fn set_cursor(desk: Desk, x: u8, y: u8) -> Desk {
-    let mut session = session_of(desk);
+    let session = session_of(desk);
     let cursor = Place {
         x: Column(x),
         y: Line(y),
     };
-    session.cursor = cursor;
-    with_session(desk, session)
+    with_frame(desk, moved(session.frame, cursor))
 }
 
 fn set_held(desk: Desk, count: u8) -> Desk {
-    let mut session = session_of(desk);
-    let old = session.held;
-    let bytes = old.bytes;
-    let held = Held {
-        bytes: bytes,
-        count: count,
+    let session = session_of(desk);
+    let frame = session.frame;
+    let old = session.reader;
+    let phase = old.phase;
+    let bytes = old.held.bytes;
+    let reader = Reader {
+        phase: phase,
+        held: Held {
+            bytes: bytes,
+            count: count,
+        },
     };
-    session.held = held;
-    with_session(desk, session)
+    with_session(
+        desk,
+        Session {
+            frame: frame,
+            reader: reader,
+        },
+    )
 }
 
 fn set_det(desk: Desk, on: bool) -> Desk {
-    let mut session = session_of(desk);
-    session.det = on;
-    with_session(desk, session)
+    let frame = session_of(desk).frame;
+    with_frame(desk, switched(frame, on, frame.suppressed))
 }
 
 fn set_suppressed(desk: Desk, on: bool) -> Desk {
-    let mut session = session_of(desk);
-    session.suppressed = on;
-    with_session(desk, session)
+    let frame = session_of(desk).frame;
+    with_frame(desk, switched(frame, frame.det, on))
 }
 
 // Does what the order says.

@@ -45,12 +45,13 @@ fn numbers(out: &mut [u8], sink: Sink, answer: Answer) -> Sink {
 
 // The session's size, cursor and flags.
 fn session(out: &mut [u8], sink: Sink, session: Session) -> Sink {
-    let width = byte(out, sink, session.width);
-    let height = byte(out, width, session.height);
-    let x = byte(out, height, session.cursor.x.0);
-    let y = byte(out, x, session.cursor.y.0);
-    let det = flag(out, y, session.det);
-    flag(out, det, session.suppressed)
+    let frame = session.frame;
+    let width = byte(out, sink, frame.width);
+    let height = byte(out, width, frame.height);
+    let x = byte(out, height, frame.cursor.x.0);
+    let y = byte(out, x, frame.cursor.y.0);
+    let det = flag(out, y, frame.det);
+    flag(out, det, frame.suppressed)
 }
 
 fn answer(
@@ -70,30 +71,81 @@ fn answer(
     sink::put(out, whole, b'\n')
 }
 
-fn verb_name(out: &mut [u8], sink: Sink, verb: Verb) -> Sink {
+// The name of a place where the reader stands: the bytes, padded, and how many count.
+struct Name {
+    bytes: [u8; 8],
+    length: usize,
+}
+
+fn verb_name(verb: Verb) -> Name {
     match verb {
-        Verb::Will => sink::text(out, sink, b"will -"),
-        Verb::Wont => sink::text(out, sink, b"wont -"),
-        Verb::Do => sink::text(out, sink, b"do -"),
-        Verb::Dont => sink::text(out, sink, b"dont -"),
+        Verb::Will => Name {
+            bytes: *b"will -  ",
+            length: 6,
+        },
+        Verb::Wont => Name {
+            bytes: *b"wont -  ",
+            length: 6,
+        },
+        Verb::Do => Name {
+            bytes: *b"do -    ",
+            length: 4,
+        },
+        Verb::Dont => Name {
+            bytes: *b"dont -  ",
+            length: 6,
+        },
     }
 }
 
-fn inside(out: &mut [u8], sink: Sink, name: &[u8], option: u8) -> Sink {
-    let named = sink::text(out, sink, name);
-    byte(out, named, option)
+fn phase_name(phase: Phase) -> Name {
+    match phase {
+        Phase::Rest => Name {
+            bytes: *b"data -  ",
+            length: 6,
+        },
+        Phase::Iac => Name {
+            bytes: *b"iac -   ",
+            length: 5,
+        },
+        Phase::Negotiating(verb) => verb_name(verb),
+        Phase::Opening => Name {
+            bytes: *b"sb -    ",
+            length: 4,
+        },
+        Phase::OpeningIac => Name {
+            bytes: *b"sb-iac -",
+            length: 8,
+        },
+        Phase::Inside(_) => Name {
+            bytes: *b"sub     ",
+            length: 3,
+        },
+        Phase::InsideIac(_) => Name {
+            bytes: *b"sub-iac ",
+            length: 7,
+        },
+    }
+}
+
+fn first(out: &mut [u8], sink: Sink, text: &[u8], length: usize) -> Sink {
+    let n = least(length, text.len());
+    sink::text(out, sink, &text[0..n])
+}
+
+fn named(out: &mut [u8], sink: Sink, text: &[u8; 8], length: usize) -> Sink {
+    first(out, sink, text, length)
 }
 
 // Where the reader stands, and the option of the subnegotiation that it is in.
 fn phase(out: &mut [u8], sink: Sink, phase: Phase) -> Sink {
+    let called = phase_name(phase);
+    let text = called.bytes;
+    let told = named(out, sink, &text, called.length);
     match phase {
-        Phase::Rest => sink::text(out, sink, b"data -"),
-        Phase::Iac => sink::text(out, sink, b"iac -"),
-        Phase::Negotiating(verb) => verb_name(out, sink, verb),
-        Phase::Opening => sink::text(out, sink, b"sb -"),
-        Phase::OpeningIac => sink::text(out, sink, b"sb-iac -"),
-        Phase::Inside(option) => inside(out, sink, b"sub", option),
-        Phase::InsideIac(option) => inside(out, sink, b"sub-iac", option),
+        Phase::Inside(option) => byte(out, told, option),
+        Phase::InsideIac(option) => byte(out, told, option),
+        _ => told,
     }
 }
 
@@ -104,8 +156,9 @@ fn held_bytes(out: &mut [u8], sink: Sink, six: &[u8; 6]) -> Sink {
 fn state(out: &mut [u8], sink: Sink, desk: Desk) -> Sink {
     let answer = desk.answer;
     let session = answer.session;
-    let stand = session.phase;
-    let held = session.held;
+    let reader = session.reader;
+    let stand = reader.phase;
+    let held = reader.held;
     let placed = phase(out, sink, stand);
     let counted = byte(out, placed, held.count);
     let six = held.bytes;

@@ -8,19 +8,21 @@ use lib.Dec.{leb}
 use lib.ListN.{length, getD, take}
 use Rattle.screen.specs.Attributes.{protectedAt}
 use Rattle.screen.proofs.WordLaws.{true-or-false, and-left, and-right, both, getD-within}
+use Rattle.rules.specs.declared.Reader.{Reader}
 use Rattle.rules.specs.declared.Refusal.{Refusal}
-use Rattle.rules.specs.Session.{View, printable, allPrintable, replyRoom}
+use Rattle.rules.specs.declared.Session.{Session}
+use Rattle.rules.specs.Session.{State, printable, allPrintable, replyRoom, screen, state, viewOf}
 use Rattle.rules.specs.Refusal.{isTaken, sizeTests, stateTests}
-use Rattle.rules.specs.Effect.{Effect, Executed, changedAll, spelledAll}
+use Rattle.rules.specs.Effect.{Effect, Executed, changedAll}
 use Rattle.rules.specs.Command.{reachesPast}
 use Rattle.rules.specs.Key.{keyOf, guardAllows, keyTests}
-use Rattle.rules.specs.Operation.{State, Ran, Outcome, hostByte, applied, running, answering, unless, takenOf, hostBytes, keyRefusal, oneKey}
+use Rattle.rules.specs.Operation.{Ran, Outcome, hostByte, applied, running, answering, unless, takenOf, hostBytes, keyRefusal, oneKey}
 use Rattle.rules.specs.Call.{Call, host, key, called, left, answered, answersOf, stateAfter, executedBy, executedOf}
-use Rattle.rules.specs.Apart.{noneReaches, Kept, state, Apart}
+use Rattle.rules.specs.Apart.{noneReaches, Kept, Apart}
 use Rattle.rules.proofs.Characters.{printable-at}
 use Rattle.rules.proofs.Refusals.{all-pass}
 use Rattle.rules.proofs.Safe.{Twins, still-twins, same-reply}
-use Rattle.rules.proofs.SafeEffects.{SafeEffect, safe-byte, safe-key}
+use Rattle.rules.proofs.SafeEffects.{SafeEffect, safe-happening, safe-key}
 
 none-append : (xs ys : List Executed) → noneReaches (xs ++ ys) ≡ true → (noneReaches xs ≡ true) × (noneReaches ys ≡ true)
 unfolding noneReaches
@@ -47,7 +49,7 @@ same-printable (x ∷ xs) (y ∷ ys) l h =
     ap₂ _&&_ (h 0 (omega arith)) (same-printable xs ys (omega arith) (λ i k. h (suc i) (omega arith)))
 
 -- a key that is taken has passed the test on the guard
-not-guarded : (s : State) (reply : List ℕ) (k : ℕ) → isTaken (keyRefusal s reply k) ≡ true → guardAllows (s .view) (keyOf k) ≡ true
+not-guarded : (s : State) (reply : List ℕ) (k : ℕ) → isTaken (keyRefusal s reply k) ≡ true → guardAllows (viewOf s) (keyOf k) ≡ true
 unfolding sizeTests stateTests keyTests
 not-guarded s reply k e = let passed = all-pass _ refl e in search
 
@@ -57,14 +59,14 @@ ran s free bs = running s (take (takenOf s free bs) bs)
 
 -- two runs, begun with the attribute bytes attrs and the characters c₀ and d₀
 module _ (attrs c₀ d₀ : List ℕ) where
-  -- where they stand: one view, with those attribute bytes and protection in effect, and characters that are twins
+  -- where they stand: one session with protection in effect, those attribute bytes, and characters that are twins
   data TwinStates : State → State → Type 0 where
-    twins : (v : View) (c d : List ℕ) → v .attrs ≡ attrs → v .session .suppressed ≡ false → Twins attrs c₀ d₀ c d
-        → TwinStates (state v c) (state v d)
+    twins : (s : Session) (now c d : List ℕ) → now ≡ attrs → s .frame .suppressed ≡ false → Twins attrs c₀ d₀ c d
+        → TwinStates (state s (screen c now)) (state s (screen d now))
 
   parts : {s t : State} → TwinStates s t
-      → (s .view .session ≡ t .view .session) × (s .view .attrs ≡ attrs) × (t .view .attrs ≡ attrs) × Twins attrs c₀ d₀ (s .chars) (t .chars)
-  parts (twins v c d a p w) = (refl, a, a, w)
+      → (s .session ≡ t .session) × (s .screen .attrs ≡ attrs) × (t .screen .attrs ≡ attrs) × Twins attrs c₀ d₀ (s .screen .chars) (t .screen .chars)
+  parts (twins s now c d a p w) = (refl, a, a, w)
 
   -- what n bytes have done in the one and m in the other
   record TwinRuns (n m : ℕ) (r q : Ran) : Type 0 where
@@ -78,27 +80,28 @@ module _ (attrs c₀ d₀ : List ℕ) where
 
   -- ---- host bytes
 
-  applied-twins : {s t : State} {e : Effect} → TwinStates s t → SafeEffect (s .view .attrs) e → TwinRuns 1 1 (applied s e) (applied t e)
-  applied-twins {e = e} (twins v c d a p w) f =
+  applied-twins : {s t : State} {r : Reader} {e : Effect} → TwinStates s t → SafeEffect (s .screen .attrs) e
+      → TwinRuns 1 1 (applied s r e) (applied t r e)
+  applied-twins {e = e} (twins s now c d a p w) f =
       let safe : SafeEffect attrs e = rw a at f in
       record {
         taken = refl;
         replies = same-reply (w .alike) (e .reply) (safe .reply);
-        states = twins (e .view) (changedAll (v .attrs) (e .changes) c) (changedAll (v .attrs) (e .changes) d) (safe .attributes) (safe .protecting)
+        states = twins _ _ (changedAll now (e .changes) c) (changedAll now (e .changes) d) (safe .attributes) (safe .protecting)
             (rw a (still-twins (e .changes) (safe .changes) w));
       }
 
   taking-twins : (bs : List ℕ) (free : ℕ) {s t : State} → TwinStates s t → noneReaches ((ran s free bs) .executed) ≡ true
       → TwinRuns (takenOf s free bs) (takenOf t free bs) (ran s free bs) (ran t free bs)
-  unfolding takenOf running
+  unfolding takenOf running hostByte
   taking-twins [] free start x = record { taken = refl; replies = refl; states = start }
-  taking-twins (b ∷ bs) free (twins v c d a p w) x =
-      let start = twins v c d a p w in
-      let said = spelledAll c ((hostByte v b) .reply) in
-      true-or-false (leb (replyRoom (v .session)) free)
+  taking-twins (b ∷ bs) free (twins s now c d a p w) x =
+      let start = twins s now c d a p w in
+      let said = (hostByte (state s (screen c now)) b) .replies in
+      true-or-false (leb (replyRoom (s .frame)) free)
       (λ r.
-      let none = none-append ((hostByte v b) .executed) _ (rw r at x) in
-      let one = applied-twins start (safe-byte v p b (none .0)) in
+      let none = none-append ((hostByte (state s (screen c now)) b) .executed) _ (rw r at x) in
+      let one = applied-twins start (safe-happening _ p (s .reader .held) _ (none .0)) in
       let rest = taking-twins bs (free - length said) (one .states) (none .1) in
       rw (r, ← one .replies) (record { taken = ap suc (rest .taken); replies = ap (λ l. said ++ l) (rest .replies); states = rest .states }))
       (λ r. rw r (record { taken = refl; replies = refl; states = start }))
@@ -124,20 +127,20 @@ module _ (attrs c₀ d₀ : List ℕ) where
 
     -- a call is refused in both runs or in neither
     same-tests : {s t : State} (reply : List ℕ) → TwinStates s t
-        → (sizeTests (t .view .session) (t .view .attrs) (t .chars) ≡ sizeTests (s .view .session) (s .view .attrs) (s .chars))
-        × (stateTests (t .view .session) (t .chars) reply ≡ stateTests (s .view .session) (s .chars) reply)
+        → (sizeTests (t .session .frame) (t .screen) ≡ sizeTests (s .session .frame) (s .screen))
+        × (stateTests (t .session) (t .screen .chars) reply ≡ stateTests (s .session) (s .screen .chars) reply)
     unfolding sizeTests stateTests
-    same-tests reply (twins v c d a p w) = (rw (w .alike .long), rw (clean-twins c d w))
+    same-tests reply (twins s now c d a p w) = (rw (w .alike .long), rw (clean-twins c d w))
 
     called-twins : (k : Call) {s t : State} → TwinStates s t → noneReaches (executedBy s k) ≡ true → TwinOutcomes (called s k) (called t k)
     unfolding called executedBy hostBytes oneKey
     called-twins (host input reply) start x =
         let e = same-tests reply start in
         rw (e .0, e .1) (unless-twins _ reply start (λ r. taking-twins input (length reply) start (rw r at x)))
-    called-twins (key k reply) (twins v c d a p w) x =
-        let start = twins v c d a p w in
+    called-twins (key k reply) (twins s now c d a p w) x =
+        let start = twins s now c d a p w in
         let e = same-tests reply start in
-        rw (e .0, e .1) (unless-twins _ reply start (λ r. applied-twins start (safe-key v p (keyOf k) (not-guarded _ reply k r))))
+        rw (e .0, e .1) (unless-twins _ reply start (λ r. applied-twins start (safe-key _ p (keyOf k) (not-guarded _ reply k r))))
 
     -- ---- a list of calls
 
@@ -152,9 +155,9 @@ module _ (attrs c₀ d₀ : List ℕ) where
         (ap₂ _∷_ (one .answers) (rest .0), rest .1)
 
 pub apart : Apart
-apart v c d calls effect clean-first clean-second alike none =
-    let run = calls-twins (v .attrs) c d clean-first clean-second calls (twins v c d refl effect (search)) none in
-    let end = parts (v .attrs) c d (run .1) in
+apart s attrs c d calls effect clean-first clean-second alike none =
+    let run = calls-twins attrs c d clean-first clean-second calls (twins s attrs c d refl effect (search)) none in
+    let end = parts attrs c d (run .1) in
     record {
       answers = run .0;
       sessions = end .0;

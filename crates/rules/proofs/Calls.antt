@@ -8,19 +8,12 @@ use lib.Seq.{take-append-seam}
 use Rattle.screen.proofs.WordLaws.{either}
 use Rattle.rules.specs.declared.Refusal.{Refusal}
 use Rattle.rules.specs.declared.Refusal.the-variants.{Taken}
+use Rattle.rules.specs.Session.{State}
 use Rattle.rules.specs.Refusal.{isTaken}
-use Rattle.rules.specs.Key.{keyOf, pressed}
-use Rattle.rules.specs.Operation.{State, Ran, Outcome, hostByte, applied, running, refusing, answering, unless, takenOf, hostRefusal, hostRan, hostBytes, keyRefusal, oneKey}
+use Rattle.rules.specs.Operation.{Ran, Outcome, running, refusing, answering, unless, takenOf, hostRefusal, hostRan, hostBytes, keyRefusal, keyRan, oneKey}
 use Rattle.rules.specs.Call.{Call, host, key, called, left}
 -- the worked cases are checked first, so that a wrong rule is refused there
 use Rattle.rules.proofs.Shut.{shut-holds}
-
--- what one host byte does, and one key
-abbrev pub byteRan : State → ℕ → Ran
-byteRan s b = applied s (hostByte (s .view) b)
-
-abbrev pub keyRan : State → ℕ → Ran
-keyRan s code = applied s (pressed (s .view) (keyOf code))
 
 -- the bytes that a call wrote
 abbrev pub repliesIn : Outcome → List ℕ

@@ -33,17 +33,17 @@ use Rattle.rules.specs.declared.Fault.{Fault}
 use Rattle.rules.specs.declared.Fault.the-variants.{NoFault, UnknownCode, OffScreen, TooManyParameters, TooFewParameters, BadValue, BadMap}
 use Rattle.rules.specs.declared.Key.{Key}
 use Rattle.rules.specs.declared.Key.the-variants.{Typed, Back, Tab, Send, Delete, Function, Meaningless}
-use Rattle.rules.specs.Session.{View, printable, noneHeld}
+use Rattle.rules.specs.Session.{View, printable}
 use Rattle.rules.specs.Effect.{Effect, Change, Part, bytes, text, changedAll, message, changing, saying, quiet}
 use Rattle.rules.specs.Telnet.{cursorGuarded, negotiated, hostCharacter, hostCharacters, hostData}
 use Rattle.rules.specs.Command.{parameter, valueFault, faultOf}
-use Rattle.rules.specs.Subcommand.{preface, unlessGuarded, transmitted, erasure, ownMap, shifting, suppressing, obeyed, judged, looked, subcommand}
+use Rattle.rules.specs.Subcommand.{preface, unlessGuarded, fieldFrom, transmitted, erasure, ownMap, shifting, suppressing, obeyed, judged, looked, subcommand}
 use Rattle.rules.specs.Key.{keyOf, pressed}
-use Rattle.rules.specs.Operation.{happening, hostByte}
+use Rattle.rules.specs.Operation.{happening}
 use Rattle.rules.proofs.Characters.{Text, Fine, text-changed, changed-append}
 use Rattle.rules.proofs.Errors.{no-fault}
 use Rattle.rules.proofs.Replies.{Fits, Follows, fits-nothing, fits-bytes, fits-prefaced, place-message, error-message, function-message, one-text, no-text, fields-text}
-use Rattle.rules.proofs.Views.{On, SoundView, Within, at-place, switched, reading, attributed, held-few, origin-on, stepped-on, next-on, limited-on, place-on, at-cell, cursor-lt, some, home-lt, back-tab-lt, first-field-lt, previous-lt, next-field-lt, line-lt, field-lt}
+use Rattle.rules.proofs.Views.{On, SoundView, Within, at-place, switched, attributed, origin-on, stepped-on, next-on, limited-on, place-on, at-cell, cursor-lt, some, home-lt, back-tab-lt, first-field-lt, previous-lt, next-field-lt, line-lt, field-lt}
 
 -- what an effect keeps on a screen m cells wide and n lines high
 pub record Keeps (m n : ℕ) (e : Effect) : Type 0 where
@@ -104,9 +104,9 @@ module _ {m n : ℕ} {v : View} (k : SoundView m n v) where
   unfolding negotiated negotiation
   keeps-negotiated Do option =
       either (Keeps m n) (not (eqb option 20)) (λ q. tells k _ (omega arith))
-      (λ q. either (Keeps m n) (v .session .det) (λ q. quietly k) (λ q. tells (switched k _ _) _ (omega arith)))
+      (λ q. either (Keeps m n) (v .frame .det) (λ q. quietly k) (λ q. tells (switched k _ _) _ (omega arith)))
   keeps-negotiated Dont option =
-      either (Keeps m n) (eqb option 20 && v .session .det) (λ q. tells (switched k _ _) _ (omega arith)) (λ q. quietly k)
+      either (Keeps m n) (eqb option 20 && v .frame .det) (λ q. tells (switched k _ _) _ (omega arith)) (λ q. quietly k)
   keeps-negotiated Will option = tells k _ (omega arith)
   keeps-negotiated Wont option = quietly k
 
@@ -135,13 +135,16 @@ module _ {m n : ℕ} {v : View} (k : SoundView m n v) where
   sends : {w : View} → SoundView m n w → (cell : ℕ) → Within v cell → (ps : List Part) → Follows (n * m) ps
       → Keeps m n (saying w (preface v cell ∷ ps))
   sends f cell h ps g =
-      says f _ (fits-prefaced m n _ ps (place-long k 28 refl (placeOf (v .session .width) cell) (place-on k cell h)) g)
+      says f _ (fits-prefaced m n _ ps (place-long k 28 refl (placeOf (v .frame .width) cell) (place-on k cell h)) g)
 
   a-text : (from end : ℕ) → Follows (n * m) (text from end ∷ [])
   a-text = one-text (cells-some k)
 
   open-text : (from end : ℕ) → Follows (n * m) (unlessGuarded v (text from end))
   open-text from end = either (Follows (n * m)) (cursorGuarded v) (λ g. no-text (cells-some k)) (λ g. a-text from end)
+
+  sends-field : (from : ℕ) → Within v from → Keeps m n (fieldFrom v from)
+  sends-field from h = sends k _ (either (Within v) (cursorGuarded v) (λ g. cursor-lt k) (λ g. h)) _ (open-text _ _)
 
   keeps-transmitted : (a : Area) → Keeps m n (transmitted v a)
   unfolding transmitted
@@ -151,9 +154,8 @@ module _ {m n : ℕ} {v : View} (k : SoundView m n v) where
   keeps-transmitted WholeLine = sends (at-place k _ (omega (arith, stepped-on k Down))) _ (line-lt k) _ (a-text _ _)
   keeps-transmitted RestOfScreen = sends k _ (cursor-lt k) _ (a-text _ _)
   keeps-transmitted RestOfLine = sends k _ (cursor-lt k) _ (a-text _ _)
-  keeps-transmitted WholeField =
-      sends k _ (either (Within v) (cursorGuarded v) (λ g. cursor-lt k) (λ g. field-lt k)) _ (open-text _ _)
-  keeps-transmitted RestOfField = sends k _ (cursor-lt k) _ (open-text _ _)
+  keeps-transmitted WholeField = sends-field _ (field-lt k)
+  keeps-transmitted RestOfField = sends-field _ (cursor-lt k)
 
   keeps-erasure : (a : Area) → Keeps m n (erasure v a)
   unfolding erasure
@@ -169,9 +171,9 @@ module _ {m n : ℕ} {v : View} (k : SoundView m n v) where
   unfolding suppressing subnegotiation doubled
   keeps-suppressing parameter =
       either (Keeps m n) (eqb parameter 253)
-      (λ q. answers (v .session .suppressed) (quietly (switched k _ _)) (tells (switched k _ _) _ (omega arith)))
+      (λ q. answers (v .frame .suppressed) (quietly (switched k _ _)) (tells (switched k _ _) _ (omega arith)))
       (λ q. either (Keeps m n) (eqb parameter 254)
-      (λ q. answers (v .session .suppressed) (tells (switched k _ _) _ (omega arith)) (quietly (switched k _ _)))
+      (λ q. answers (v .frame .suppressed) (tells (switched k _ _) _ (omega arith)) (quietly (switched k _ _)))
       (λ q. either (Keeps m n) (eqb parameter 251) (λ q. tells k _ (omega arith)) (λ q. quietly k)))
 
   keeps-map : (f : Facility) → Keeps m n (saying v (message (ownMap f) ∷ []))
@@ -192,7 +194,7 @@ module _ {m n : ℕ} {v : View} (k : SoundView m n v) where
   keeps-obeyed Home h e = quietly (at-cell k _ (home-lt k))
   keeps-obeyed CharInsert h e = keeps-shift Insertion
   keeps-obeyed CharDelete h e = keeps-shift Deletion
-  keeps-obeyed ReadCursor h e = tells k _ (omega (arith, place-long k 18 refl (v .session .cursor) (k .cursor)))
+  keeps-obeyed ReadCursor h e = tells k _ (omega (arith, place-long k 18 refl (v .frame .cursor) (k .cursor)))
   keeps-obeyed ReverseTab h e = quietly (at-cell k _ (back-tab-lt k))
   keeps-obeyed (Transmit a) h e = keeps-transmitted a
   keeps-obeyed (Erase a) h e = keeps-erasure a
@@ -224,27 +226,22 @@ module _ {m n : ℕ} {v : View} (k : SoundView m n v) where
 
 -- ---- a host byte
 
-keeps-happening : {m n : ℕ} {v : View} → SoundView m n v → (e : Event) → Keeps m n (happening v e)
+-- whatever the reader told
+pub keeps-happening : {m n : ℕ} {v : View} → SoundView m n v → (h : Held) (e : Event) → Keeps m n (happening v h e)
 unfolding happening
-keeps-happening k Nothing = quietly k
-keeps-happening k (Data b) = keeps-data k b
-keeps-happening k (Negotiation verb option) = keeps-negotiated k verb option
-keeps-happening k (Begin option) = quietly (reading k _ _ (omega arith))
-keeps-happening k (Sub option b) = quietly (reading k _ _ (held-few k b))
-keeps-happening {m} {n} {v} k (End option) =
-    let w = reading k _ noneHeld (omega arith) in
-    either (Keeps m n) (eqb option 20 && v .session .det) (λ q. keeps-subcommand w _) (λ q. quietly w)
-keeps-happening k EndBare = quietly (reading k _ _ (omega arith))
-keeps-happening k Lost = quietly (reading k _ _ (omega arith))
-
--- whatever the byte
-pub keeps-byte : {m n : ℕ} {v : View} → SoundView m n v → (b : ℕ) → Keeps m n (hostByte v b)
-unfolding hostByte
-keeps-byte {v = v} k b = keeps-happening (reading k _ (v .session .held) (k .held)) _
+keeps-happening k h Nothing = quietly k
+keeps-happening k h (Data b) = keeps-data k b
+keeps-happening k h (Negotiation verb option) = keeps-negotiated k verb option
+keeps-happening k h (Begin option) = quietly k
+keeps-happening k h (Sub option b) = quietly k
+keeps-happening {m} {n} {v} k h (End option) =
+    either (Keeps m n) (eqb option 20 && v .frame .det) (λ q. keeps-subcommand k h) (λ q. quietly k)
+keeps-happening k h EndBare = quietly k
+keeps-happening k h Lost = quietly k
 
 -- at most one command is executed
-pub executed-one : {m n : ℕ} {v : View} → SoundView m n v → (b : ℕ) → length ((hostByte v b) .executed) ≤ 1
-executed-one k b = keeps-byte k b .executed
+pub executed-one : {m n : ℕ} {v : View} → SoundView m n v → (h : Held) (e : Event) → length ((happening v h e) .executed) ≤ 1
+executed-one k h e = keeps-happening k h e .executed
 
 -- ---- a key
 

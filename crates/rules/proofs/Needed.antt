@@ -12,21 +12,24 @@ use Rattle.telnet.specs.Writer.{subnegotiation}
 use Rattle.screen.specs.Words.{if_then_else_}
 use Rattle.screen.specs.Attributes.{protectedAt}
 use Rattle.screen.proofs.WordLaws.{not-both, both}
-use Rattle.rules.specs.Session.{View, allPrintable}
+use Rattle.rules.specs.declared.Session.{Session}
+use Rattle.rules.specs.Session.{State, allPrintable, screen, state}
 use Rattle.rules.specs.Effect.{Executed}
 use Rattle.rules.specs.Command.{codeIn, reachesPast}
-use Rattle.rules.specs.Operation.{State}
 use Rattle.rules.specs.Call.{Call, host, key, Answered, answersOf, stateAfter, executedOf}
 use Rattle.rules.specs.Computing.{computing}
 use Rattle.rules.specs.Cases.{characters, starting}
-use Rattle.rules.specs.Apart.{noneReaches, Alike, Indistinct, state}
+use Rattle.rules.specs.Apart.{noneReaches, Alike, Untold}
 -- the worked cases are checked first, so that a wrong rule is refused there
 use Rattle.rules.proofs.Shut.{shut-holds}
 
 -- ---- two screens: form F with patient number #4 and with #5; the digit, cell 7, is protected
 
-abbrev view : ℕ → ℕ → View
-view x y = (starting 8 2 false (replicate 3 8 ++ (replicate 3 0 ++ (replicate 7 8 ++ replicate 3 0))) [] x y) .view
+abbrev attrs : List ℕ
+attrs = replicate 3 8 ++ (replicate 3 0 ++ (replicate 7 8 ++ replicate 3 0))
+
+abbrev at : ℕ → ℕ → Session
+at x y = (starting 8 2 false [] attrs x y) .session
 
 unfoldable pub four : List ℕ
 four = characters "WT 70 #4UNIT mg "
@@ -35,25 +38,25 @@ unfoldable pub five : List ℕ
 five = characters "WT 70 #5UNIT mg "
 
 -- every premise of demand 3 but the one on the seven
-pub record Premised (v : View) (c d : List ℕ) : Type 0 where
-  pub in-effect : v .session .suppressed ≡ false
+pub record Premised (s : Session) (attrs c d : List ℕ) : Type 0 where
+  pub in-effect : s .frame .suppressed ≡ false
   pub printable-first : allPrintable c ≡ true
   pub printable-second : allPrintable d ≡ true
-  pub alike : Alike (v .attrs) c d
+  pub alike : Alike attrs c d
 
 -- `five` is `four` with 53, the digit 5, in cell 7
-same-beside : (x y i : ℕ) → protectedAt ((view x y) .attrs) i ≡ false → getD four i 0 ≡ getD five i 0
+same-beside : (i : ℕ) → protectedAt attrs i ≡ false → getD four i 0 ≡ getD five i 0
 unfolding computing four five characters
-same-beside x y i e = sym (getD-set-other four 7 i 53 0 (λ h. not-both true refl (sym (ap (protectedAt ((view x y) .attrs)) h) ∙ e)))
+same-beside i e = sym (getD-set-other four 7 i 53 0 (λ h. not-both true refl (sym (ap (protectedAt attrs) h) ∙ e)))
 
-premised : (x y : ℕ) → Premised (view x y) four five
+premised : (x y : ℕ) → Premised (at x y) attrs four five
 unfolding computing four five characters
 premised x y =
     record {
       in-effect = refl;
       printable-first = refl;
       printable-second = refl;
-      alike = record { long = refl; unprotected = λ i h e. same-beside x y i e };
+      alike = record { long = refl; unprotected = λ i h e. same-beside i e };
     }
 
 -- ---- calls with reply room 114, and what is seen of them
@@ -97,10 +100,10 @@ busy =
     ++ (command (20 ∷ 0 ∷ []) ∷ command (36 ∷ 32 ∷ 0 ∷ 0 ∷ 1 ∷ []) ∷ bytes (0xff ∷ 0xfe ∷ 20 ∷ []) ∷ command (20 ∷ []) ∷ []))
 
 abbrev begin : State
-begin = state (view 3 0) four
+begin = state (at 3 0) (screen four attrs)
 
 pub record Met : Type 0 where
-  pub premised : Premised (view 3 0) four five
+  pub premised : Premised (at 3 0) attrs four five
   pub none-reaches : noneReaches (executedOf begin busy) ≡ true
   pub differ : four ≡ five → ⊥
   -- the answers are not empty: the first bytes are those that key 13 sends
@@ -108,7 +111,7 @@ pub record Met : Type 0 where
       take 20 (spoken (answersOf begin busy))
       ≡ subnegotiation 20 (28 ∷ 3 ∷ 0 ∷ []) ++ (characters "8  " ++ (subnegotiation 20 (39 ∷ []) ++ characters "mg "))
   pub executed : map (λ e. codeIn (e .held)) (executedOf begin busy) ≡ map (λ payload. getD payload 0 0) harmless
-  pub ends : (stateAfter begin busy) .chars ≡ characters "WT AA #4UNIT    "
+  pub ends : (stateAfter begin busy) .screen .chars ≡ characters "WT AA #4UNIT    "
 
 differs : four ≡ five → ⊥
 unfolding four five characters
@@ -150,16 +153,16 @@ reaching =
     ∷ []
 
 abbrev first : Reach → State
-first r = state (view (r .x) (r .y)) four
+first r = state (at (r .x) (r .y)) (screen four attrs)
 
 abbrev second : Reach → State
-second r = state (view (r .x) (r .y)) five
+second r = state (at (r .x) (r .y)) (screen five attrs)
 
 -- All premises but one hold, this command and no other of the seven is executed, and the conclusion fails.
 pub record Needed (r : Reach) : Type 0 where
-  pub premised : Premised (view (r .x) (r .y)) four five
+  pub premised : Premised (at (r .x) (r .y)) attrs four five
   pub only : past (executedOf (first r) (r .calls)) ≡ r .code ∷ []
-  pub broken : Indistinct (view (r .x) (r .y)) four five (r .calls) → ⊥
+  pub broken : Untold (at (r .x) (r .y)) attrs four five (r .calls) → ⊥
 
 unfoldable same : List ℕ → List ℕ → Bool
 same [] [] = true
@@ -176,21 +179,21 @@ same-refl (x ∷ xs) = both (eqb x x) (same xs xs) (eq-eqb x x refl) (same-refl 
 unfoldable untold : Reach → Bool
 untold r =
     same (spoken (answersOf (first r) (r .calls))) (spoken (answersOf (second r) (r .calls)))
-    && eqb (getD ((stateAfter (first r) (r .calls)) .chars) 7 0) (getD four 7 0)
+    && eqb (getD ((stateAfter (first r) (r .calls)) .screen .chars) 7 0) (getD four 7 0)
 
 within : 7 < length four
 unfolding four characters
 within = omega arith
 
-guarded : (x y : ℕ) → protectedAt ((view x y) .attrs) 7 ≡ true
+guarded : protectedAt attrs 7 ≡ true
 unfolding protectedAt
-guarded x y = refl
+guarded = refl
 
-passes : (r : Reach) → Indistinct (view (r .x) (r .y)) four five (r .calls) → untold r ≡ true
+passes : (r : Reach) → Untold (at (r .x) (r .y)) attrs four five (r .calls) → untold r ≡ true
 unfolding untold
 passes r i =
     both _ _ (ap (λ a. same (spoken a) (spoken (answersOf (second r) (r .calls)))) (i .answers) ∙ same-refl _)
-    (eq-eqb _ _ (i .kept-first .protected 7 within (guarded (r .x) (r .y))))
+    (eq-eqb _ _ (i .kept-first .protected 7 within guarded))
 
 needed : (r : Reach) → past (executedOf (first r) (r .calls)) ≡ r .code ∷ [] → untold r ≡ false → Needed r
 needed r only fails =

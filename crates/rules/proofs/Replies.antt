@@ -15,7 +15,7 @@ use Rattle.screen.specs.Fields.{startsAt, opensAt, fieldEnd}
 use Rattle.screen.specs.Edits.{textOf}
 use Rattle.screen.proofs.WordLaws.{either, true-or-false}
 use Rattle.screen.proofs.FieldLaws.{end-gt}
-use Rattle.rules.specs.Session.{replyRoom, fresh}
+use Rattle.rules.specs.Session.{replyRoom, freshFrame}
 use Rattle.rules.specs.Effect.{Part, bytes, text, spelled, spelledAll}
 use Rattle.rules.specs.Subcommand.{fieldTexts, withoutFirst}
 -- the worked cases are checked first, so that a wrong rule is refused there
@@ -23,7 +23,7 @@ use Rattle.rules.proofs.Shut.{shut-holds}
 
 -- a reply that fits into the reply room of a screen m cells wide and n lines high
 abbrev pub Fits : ℕ → ℕ → List Part → Type 0
-Fits m n ps = (chars : List ℕ) → length chars ≡ n * m → length (spelledAll chars ps) ≤ replyRoom (fresh m n)
+Fits m n ps = (chars : List ℕ) → length chars ≡ n * m → length (spelledAll chars ps) ≤ replyRoom (freshFrame m n)
 
 -- what may follow a preface, on a screen of so many cells
 abbrev pub Follows : ℕ → List Part → Type 0

@@ -10,34 +10,35 @@ use lib.Dec.{leb}
 use lib.ListN.{length, take, length-append, length-drop}
 use Rattle.screen.proofs.WordLaws.{either}
 use Rattle.rules.specs.declared.Refusal.the-variants.{Taken}
-use Rattle.rules.specs.Session.{replyRoom, fresh}
+use Rattle.rules.specs.Session.{State, replyRoom, freshFrame}
 use Rattle.rules.specs.Refusal.{isTaken}
-use Rattle.rules.specs.Operation.{State, Outcome, running, unless, takenOf, hostRefusal, hostBytes}
+use Rattle.rules.specs.Operation.{Outcome, hostByte, running, unless, takenOf, hostRefusal, hostBytes, keyRan}
 use Rattle.rules.specs.Call.{Call, host, key, called}
 use Rattle.rules.specs.Computing.{computing}
 use Rattle.rules.specs.Cases.{starting}
-use Rattle.rules.proofs.Calls.{byteRan, keyRan, lent, takenBy, ranBy, called-cases}
-use Rattle.rules.proofs.Effects.{keeps-byte, keeps-key}
+use Rattle.rules.proofs.Calls.{lent, takenBy, ranBy, called-cases}
+use Rattle.rules.proofs.Effects.{keeps-happening, keeps-key}
 use Rattle.rules.proofs.Sound.{Sound, sound-byte, Accepted, sound-of}
 
 -- ---- one reply
 
 module _ {m n : ℕ} {s : State} (k : Sound m n s) where
-  pub room-is : replyRoom (s .view .session) ≡ replyRoom (fresh m n)
+  pub room-is : replyRoom (s .session .frame) ≡ replyRoom (freshFrame m n)
   room-is = rw (k .view .sizes .width, k .view .sizes .height)
 
   -- of a host byte
-  pub room-byte : (b : ℕ) → length ((byteRan s b) .replies) ≤ replyRoom (s .view .session)
-  room-byte b = omega (arith, room-is, keeps-byte (k .view) b .reply (s .chars) (k .chars .long))
+  pub room-byte : (b : ℕ) → length ((hostByte s b) .replies) ≤ replyRoom (s .session .frame)
+  unfolding hostByte
+  room-byte b = rw room-is (keeps-happening (k .view) (s .session .reader .held) _ .reply (s .screen .chars) (k .chars .long))
 
   -- of a key
-  pub room-key : (code : ℕ) → length ((keyRan s code) .replies) ≤ replyRoom (s .view .session)
-  room-key code = omega (arith, room-is, keeps-key (k .view) code .reply (s .chars) (k .chars .long))
+  pub room-key : (code : ℕ) → length ((keyRan s code) .replies) ≤ replyRoom (s .session .frame)
+  room-key code = omega (arith, room-is, keeps-key (k .view) code .reply (s .screen .chars) (k .chars .long))
 
 -- All of it is used: two cells, each an unprotected field, and subcommand 21.
 pub room-reached :
-    let s = starting 2 1 false (0 ∷ 16 ∷ []) (32 ∷ 32 ∷ []) 0 0 in
-    length ((running s (255 ∷ 250 ∷ 20 ∷ 21 ∷ 255 ∷ 240 ∷ [])) .replies) ≡ replyRoom (s .view .session)
+    let s = starting 2 1 false (32 ∷ 32 ∷ []) (0 ∷ 16 ∷ []) 0 0 in
+    length ((running s (255 ∷ 250 ∷ 20 ∷ 21 ∷ 255 ∷ 240 ∷ [])) .replies) ≡ replyRoom (s .session .frame)
 unfolding computing
 room-reached = refl
 
@@ -48,8 +49,8 @@ pub taken-most : (s : State) (free : ℕ) (bs : List ℕ) → takenOf s free bs 
 unfolding takenOf
 taken-most s free [] = omega arith
 taken-most s free (b ∷ bs) =
-    let rest = taken-most ((byteRan s b) .state) (free - length ((byteRan s b) .replies)) bs in
-    either (λ n. n ≤ length (b ∷ bs)) (leb (replyRoom (s .view .session)) free) (λ e. omega arith) (λ e. omega arith)
+    let rest = taken-most ((hostByte s b) .state) (free - length ((hostByte s b) .replies)) bs in
+    either (λ n. n ≤ length (b ∷ bs)) (leb (replyRoom (s .session .frame)) free) (λ e. omega arith) (λ e. omega arith)
 
 -- the replies of the bytes that are taken fit
 pub replies-fit : {m n : ℕ} {s : State} → Sound m n s → (free : ℕ) (bs : List ℕ)
@@ -57,8 +58,8 @@ pub replies-fit : {m n : ℕ} {s : State} → Sound m n s → (free : ℕ) (bs :
 unfolding takenOf running
 replies-fit k free [] = omega arith
 replies-fit {s = s} k free (b ∷ bs) =
-    let one = byteRan s b in
-    either (λ n. length ((running s (take n (b ∷ bs))) .replies) ≤ free) (leb (replyRoom (s .view .session)) free)
+    let one = hostByte s b in
+    either (λ n. length ((running s (take n (b ∷ bs))) .replies) ≤ free) (leb (replyRoom (s .session .frame)) free)
     (λ e. rw length-append
     (omega (arith, leb-true, room-byte k b, replies-fit (sound-byte k b) (free - length (one .replies)) bs)))
     (λ e. omega arith)

@@ -10,11 +10,11 @@ use lib.ListN.{length, length-append, getD, take, drop, drop-of-length-le}
 use lib.Seq.{take-suc, drop-cons, take-length, take-append-seam}
 use Rattle.screen.proofs.WordLaws.{either}
 use Rattle.rules.specs.declared.Refusal.the-variants.{Taken}
-use Rattle.rules.specs.Session.{replyRoom}
+use Rattle.rules.specs.Session.{State, replyRoom}
 use Rattle.rules.specs.Refusal.{isTaken}
-use Rattle.rules.specs.Operation.{State, Ran, running, answering, unless, takenOf, hostRefusal, hostBytes}
+use Rattle.rules.specs.Operation.{Ran, hostByte, running, answering, unless, takenOf, hostRefusal, hostBytes}
 use Rattle.rules.specs.Call.{host, left, executedBy}
-use Rattle.rules.proofs.Calls.{byteRan, repliesIn}
+use Rattle.rules.proofs.Calls.{repliesIn}
 use Rattle.rules.proofs.Sound.{Sound, sound-byte, sound-of, passes}
 use Rattle.rules.proofs.Room.{room-is, room-byte}
 
@@ -27,32 +27,32 @@ pub running-append : (s : State) (xs ys : List ℕ)
     → running s (xs ++ ys) ≡ followed (running s xs) (running ((running s xs) .state) ys)
 unfolding running
 running-append s [] ys = refl
-running-append s (x ∷ xs) ys = rw (running-append ((byteRan s x) .state) xs ys) (simp append-assoc)
+running-append s (x ∷ xs) ys = rw (running-append ((hostByte s x) .state) xs ys) (simp append-assoc)
 
 -- ---- all is taken
 
 -- how many are taken after a first byte
 abbrev pub takenAfter : State → ℕ → ℕ → List ℕ → ℕ
-takenAfter s free b bs = takenOf ((byteRan s b) .state) (free - length ((byteRan s b) .replies)) bs
+takenAfter s free b bs = takenOf ((hostByte s b) .state) (free - length ((hostByte s b) .replies)) bs
 
 module _ (s : State) (free b : ℕ) (bs : List ℕ) where
-  one-taken : replyRoom (s .view .session) ≤ free → takenOf s free (b ∷ bs) ≡ suc (takenAfter s free b bs)
+  one-taken : replyRoom (s .session .frame) ≤ free → takenOf s free (b ∷ bs) ≡ suc (takenAfter s free b bs)
   unfolding takenOf
   one-taken h = rw (le-leb _ _ h)
 
   first-taken : takenOf s free (b ∷ bs) ≡ suc (length bs)
-      → (replyRoom (s .view .session) ≤ free) × (takenAfter s free b bs ≡ length bs)
+      → (replyRoom (s .session .frame) ≤ free) × (takenAfter s free b bs ≡ length bs)
   unfolding takenOf
   first-taken =
-      either (λ n. n ≡ suc (length bs) → (replyRoom (s .view .session) ≤ free) × (takenAfter s free b bs ≡ length bs))
-      (leb (replyRoom (s .view .session)) free) (λ t e. omega (arith, leb-true)) (λ t e. absurd (omega arith))
+      either (λ n. n ≡ suc (length bs) → (replyRoom (s .session .frame) ≤ free) × (takenAfter s free b bs ≡ length bs))
+      (leb (replyRoom (s .session .frame)) free) (λ t e. omega (arith, leb-true)) (λ t e. absurd (omega arith))
 
 more-room : (s : State) (a c : ℕ) (xs : List ℕ) → a ≤ c → takenOf s a xs ≡ length xs → takenOf s c xs ≡ length xs
 unfolding takenOf
 more-room s a c [] h e = refl
 more-room s a c (x ∷ xs) h e =
     let f = first-taken s a x xs e in
-    one-taken s c x xs (omega arith) ∙ ap suc (more-room _ (a - length ((byteRan s x) .replies)) _ xs (omega arith) (f .1))
+    one-taken s c x xs (omega arith) ∙ ap suc (more-room _ (a - length ((hostByte s x) .replies)) _ xs (omega arith) (f .1))
 
 all-taken : {m n : ℕ} {s : State} → Sound m n s → (a b c : ℕ) (xs ys : List ℕ) → takenOf s a xs ≡ length xs
     → takenOf ((running s xs) .state) b ys ≡ length ys → a + b ≤ c → takenOf s c (xs ++ ys) ≡ length (xs ++ ys)
@@ -62,15 +62,15 @@ all-taken {s = s} k a b c (x ∷ xs) ys e d h =
     let f = first-taken s a x xs e in
     let r = room-byte k x in
     one-taken s c x (xs ++ ys) (omega arith)
-    ∙ ap suc (all-taken (sound-byte k x) (a - length ((byteRan s x) .replies)) b _ xs ys (f .1) d (omega arith))
+    ∙ ap suc (all-taken (sound-byte k x) (a - length ((hostByte s x) .replies)) b _ xs ys (f .1) d (omega arith))
 
 -- bytes that draw no reply are all taken, where there is room for one
-pub silent-taken : {m n : ℕ} {s : State} → Sound m n s → (free : ℕ) (xs ys : List ℕ) → replyRoom (s .view .session) ≤ free
+pub silent-taken : {m n : ℕ} {s : State} → Sound m n s → (free : ℕ) (xs ys : List ℕ) → replyRoom (s .session .frame) ≤ free
     → length ((running s xs) .replies) ≡ 0 → takenOf s free (xs ++ ys) ≡ length xs + takenOf ((running s xs) .state) free ys
 unfolding running
 silent-taken k free [] ys r e = omega arith
 silent-taken {s = s} k free (x ∷ xs) ys r e =
-    let one = byteRan s x in
+    let one = hostByte s x in
     let both = length-append (one .replies) ((running (one .state) xs) .replies) in
     let same : free - length (one .replies) ≡ free = omega arith in
     let rest = silent-taken (sound-byte k x) free xs ys (rw (room-is (sound-byte k x), ← room-is k) r) (omega arith) in
@@ -131,11 +131,11 @@ abbrev pub ranOf : State → ℕ → List ℕ → Ran
 ranOf s free bs = running s (take (takenOf s free bs) bs)
 
 -- from i on, with room for a reply: the byte at i, and those from i + 1 on
-module _ (s : State) (free : ℕ) (input : List ℕ) (i : ℕ) (h : i < length input) (r : replyRoom (s .view .session) ≤ free) where
+module _ (s : State) (free : ℕ) (input : List ℕ) (i : ℕ) (h : i < length input) (r : replyRoom (s .session .frame) ≤ free) where
   pub taken-step : takenOf s free (drop i input) ≡ suc (takenAfter s free (getD input i 0) (drop (i + 1) input))
   taken-step = rw (add-one, drop-cons input i 0) (one-taken s free _ _ r)
 
-  pub ran-step : let one = byteRan s (getD input i 0) in
+  pub ran-step : let one = hostByte s (getD input i 0) in
       ranOf s free (drop i input) ≡ followed one (ranOf (one .state) (free - length (one .replies)) (drop (i + 1) input))
   unfolding running
   ran-step = rw (taken-step, add-one, drop-cons input i 0)
@@ -143,7 +143,7 @@ module _ (s : State) (free : ℕ) (input : List ℕ) (i : ℕ) (h : i < length i
 -- one byte more
 pub running-next : (s : State) (input : List ℕ) (i : ℕ) → i < length input →
     let r = running s (take i input) in
-    running s (take (i + 1) input) ≡ followed r (byteRan (r .state) (getD input i 0))
+    running s (take (i + 1) input) ≡ followed r (hostByte (r .state) (getD input i 0))
 unfolding running
 running-next s input i h = rw (add-one, take-suc input i 0, running-append) (simp append-nil)
 
@@ -153,7 +153,7 @@ unfolding takenOf
 taken-end s free input i h = rw (drop-of-length-le input h)
 
 -- nor with no room
-pub taken-full : (s : State) (free : ℕ) (bs : List ℕ) → free < replyRoom (s .view .session) → takenOf s free bs ≡ 0
+pub taken-full : (s : State) (free : ℕ) (bs : List ℕ) → free < replyRoom (s .session .frame) → takenOf s free bs ≡ 0
 unfolding takenOf
 taken-full s free [] h = refl
 taken-full s free (b ∷ bs) h = rw (lt-leb _ _ h)

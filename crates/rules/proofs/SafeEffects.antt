@@ -33,7 +33,7 @@ use Rattle.rules.specs.Telnet.{cursorGuarded, negotiated, hostCharacter,
 use Rattle.rules.specs.Command.{sendsPast, erasesPast, reachesPast}
 use Rattle.rules.specs.Subcommand.{fieldTexts, withoutFirst, transmitted, erasure, suppressing, obeyed, judged, looked, subcommand}
 use Rattle.rules.specs.Key.{guardAllows, pressed}
-use Rattle.rules.specs.Operation.{happening, hostByte}
+use Rattle.rules.specs.Operation.{happening}
 use Rattle.rules.specs.Apart.{noneReaches}
 use Rattle.rules.proofs.All.{All, all-append}
 use Rattle.rules.proofs.Safe.{Open, SafeChange, SafePart}
@@ -41,7 +41,7 @@ use Rattle.rules.proofs.Safe.{Open, SafeChange, SafePart}
 -- the attribute bytes stay, protection stays in effect, and unprotected cells alone are changed and sent
 pub record SafeEffect (attrs : List ℕ) (e : Effect) : Type 0 where
   pub attributes : e .view .attrs ≡ attrs
-  pub protecting : e .view .session .suppressed ≡ false
+  pub protecting : e .view .frame .suppressed ≡ false
   pub changes : All (SafeChange attrs) (e .changes)
   pub reply : All (SafePart attrs) (e .reply)
 
@@ -52,14 +52,14 @@ Allowed attrs e = noneReaches (e .executed) ≡ true → SafeEffect attrs e
 -- ---- host characters
 
 -- a cell that is not guarded is unprotected
-open-cursor : (v : View) → v .session .suppressed ≡ false → cursorGuarded v ≡ false → protectedAt (v .attrs) (cursorCell v) ≡ false
+open-cursor : (v : View) → v .frame .suppressed ≡ false → cursorGuarded v ≡ false → protectedAt (v .attrs) (cursorCell v) ≡ false
 open-cursor v effect g = rw effect at g
 
-safe-character : (v : View) → v .session .suppressed ≡ false → (c : ℕ) → SafeEffect (v .attrs) (hostCharacter v c)
+safe-character : (v : View) → v .frame .suppressed ≡ false → (c : ℕ) → SafeEffect (v .attrs) (hostCharacter v c)
 unfolding hostCharacter
 safe-character v effect c = search (either (SafeEffect (v .attrs)), open-cursor)
 
-safe-characters : (n : ℕ) (v : View) → v .session .suppressed ≡ false → (c : ℕ) → SafeEffect (v .attrs) (hostCharacters n v c)
+safe-characters : (n : ℕ) (v : View) → v .frame .suppressed ≡ false → (c : ℕ) → SafeEffect (v .attrs) (hostCharacters n v c)
 unfolding hostCharacters
 safe-characters zero v effect c = search
 safe-characters (suc n) v effect c =
@@ -87,7 +87,7 @@ module _ (attrs : List ℕ) where
   without-first [] h = tt
   without-first (p ∷ ps) h = h .1
 
-module _ (v : View) (effect : v .session .suppressed ≡ false) where
+module _ (v : View) (effect : v .frame .suppressed ≡ false) where
   unless-guarded : {A : Type 0} (P : A → Type 0) (x : A) → (protectedAt (v .attrs) (cursorCell v) ≡ false → P x)
       → All P (if cursorGuarded v then [] else x ∷ [])
   unless-guarded P x f = either (All P) (cursorGuarded v) (λ g. tt) (λ g. (f (open-cursor v effect g), tt))
@@ -181,17 +181,13 @@ module _ (v : View) (effect : v .session .suppressed ≡ false) where
 
 -- ---- host bytes
 
-safe-happening : (v : View) → v .session .suppressed ≡ false → (e : Event) → Allowed (v .attrs) (happening v e)
+pub safe-happening : (v : View) → v .frame .suppressed ≡ false → (h : Held) (e : Event) → Allowed (v .attrs) (happening v h e)
 unfolding happening
-safe-happening v effect Nothing = search
-safe-happening v effect (Data b) = search safe-data
-safe-happening v effect (Negotiation verb option) = search safe-negotiated
-safe-happening v effect (Begin option) = search
-safe-happening v effect (Sub option b) = search
-safe-happening v effect (End option) = either (Allowed (v .attrs)) (eqb option 20 && v .session .det) (λ q. safe-subcommand _ effect _) (λ q. search)
-safe-happening v effect EndBare = search
-safe-happening v effect Lost = search
-
-pub safe-byte : (v : View) → v .session .suppressed ≡ false → (b : ℕ) → Allowed (v .attrs) (hostByte v b)
-unfolding hostByte
-safe-byte v effect b = safe-happening _ effect _
+safe-happening v effect h Nothing = search
+safe-happening v effect h (Data b) = search safe-data
+safe-happening v effect h (Negotiation verb option) = search safe-negotiated
+safe-happening v effect h (Begin option) = search
+safe-happening v effect h (Sub option b) = search
+safe-happening v effect h (End option) = either (Allowed (v .attrs)) (eqb option 20 && v .frame .det) (λ q. safe-subcommand v effect h) (λ q. search)
+safe-happening v effect h EndBare = search
+safe-happening v effect h Lost = search

@@ -7,8 +7,7 @@ use Prim.Native.String.{String}
 use lib.ListN.{length, getD, replicate}
 use Rattle.telnet.specs.declared.Phase.the-variants.{Rest}
 use Rattle.rules.specs.declared.Held.{Held}
-use Rattle.rules.specs.Session.{noneHeld, withReader, withModes}
-use Rattle.rules.specs.Operation.{State}
+use Rattle.rules.specs.Session.{State, noneHeld, session, switched, state}
 use Rattle.rules.specs.Call.{host, called}
 use Rattle.rules.specs.Computing.{computing}
 use Rattle.rules.specs.Cases.{Case, Turn, Seen, characters, see, starting, hostTurn, keyTurn, seenIn, observed, expected}
@@ -22,7 +21,7 @@ case s turns = record { start = s; turns = turns }
 
 -- "ABcd" over "eFGH": a protected label, an unprotected field "cde" that crosses the line end, a protected rest
 abbrev label : Bool → ℕ → ℕ → State
-label suppressed x y = starting 4 2 suppressed (replicate 2 8 ++ (replicate 3 0 ++ replicate 3 8)) (characters "ABcdeFGH") x y
+label suppressed x y = starting 4 2 suppressed (characters "ABcdeFGH") (replicate 2 8 ++ (replicate 3 0 ++ replicate 3 8)) x y
 
 -- it with protection in effect, and suppressed
 abbrev form : ℕ → ℕ → List Turn → Case
@@ -33,18 +32,18 @@ lifted x y turns = case (label true x y) turns
 
 -- "abcd" over "eF1G": "ab" of no class and "cde" alphabetic side by side, one numeric cell "1" between protected ones
 abbrev sides : ℕ → ℕ → List Turn → Case
-sides x y turns = case (starting 4 2 false (replicate 2 0 ++ (replicate 3 16 ++ (8 ∷ 24 ∷ 8 ∷ []))) (characters "abcdeF1G") x y) turns
+sides x y turns = case (starting 4 2 false (characters "abcdeF1G") (replicate 2 0 ++ (replicate 3 16 ++ (8 ∷ 24 ∷ 8 ∷ []))) x y) turns
 
 -- nothing protected; everything protected, by two unequal attribute bytes
 abbrev free : ℕ → ℕ → List Turn → Case
-free x y turns = case (starting 4 2 false (replicate 8 0) (characters "abcdefgh") x y) turns
+free x y turns = case (starting 4 2 false (characters "abcdefgh") (replicate 8 0) x y) turns
 
 abbrev closed : ℕ → ℕ → List Turn → Case
-closed x y turns = case (starting 4 2 false (replicate 4 8 ++ replicate 4 9) (characters "ABCDEFGH") x y) turns
+closed x y turns = case (starting 4 2 false (characters "ABCDEFGH") (replicate 4 8 ++ replicate 4 9) x y) turns
 
 -- one cell with this attribute byte, whose least reply room is 9
 abbrev cell : ℕ → Bool → State
-cell attr suppressed = starting 1 1 suppressed (attr ∷ []) (characters "?") 0 0
+cell attr suppressed = starting 1 1 suppressed (characters "?") (attr ∷ []) 0 0
 
 -- ---- turns: what is given; then the cursor, the characters, the reply
 
@@ -110,7 +109,8 @@ hears input reply = reads input 2 0 "ABcdeFGH" reply
 
 abbrev unchanged : ℕ → State → Seen
 unchanged number s =
-    let at = s .view .session .cursor in record { refusal = number; taken = 0; x = at .x .0; y = at .y .0; chars = s .chars; replies = [] }
+    let at = s .session .frame .cursor in
+    record { refusal = number; taken = 0; x = at .x .0; y = at .y .0; chars = s .screen .chars; replies = [] }
 
 -- with this room host bytes, and a key without meaning, are both refused with this number
 abbrev both : ℕ → ℕ → State → Case
@@ -120,20 +120,18 @@ both number room s = case s (hostTurn room (characters "x") (unchanged number s)
 abbrev denied : State → List (ℕ × ℕ × ℕ) → Case
 denied s rows = case s (map (λ r. keyTurn (r .1) (r .2) (unchanged (r .0) s)) rows)
 
--- one line of this width; four attribute bytes, these characters, the cursor at x
+-- one line of this width; these characters, four attribute bytes, the cursor at x
 abbrev line : ℕ → List ℕ → ℕ → State
-line m chars x = starting m 1 false (replicate 4 0) chars x 0
+line m chars x = starting m 1 false chars (replicate 4 0) x 0
 
 -- the label at (2,0) with so many bytes held, or with DET off
 abbrev holds : ℕ → State
 holds count =
-    record {
-      view = withReader ((label false 2 0) .view) Rest (record { bytes = replicate 6 0; count = count });
-      chars = characters "ABcdeFGH";
-    }
+    let s = label false 2 0 in
+    state (session (s .session .frame) (record { phase = Rest; held = record { bytes = replicate 6 0; count = count } })) (s .screen)
 
 abbrev off : State
-off = record { view = withModes ((label false 2 0) .view) false false; chars = characters "ABcdeFGH" }
+off = let s = label false 2 0 in state (session (switched (s .session .frame) false false) (s .session .reader)) (s .screen)
 
 unfoldable pub shut : List Case
 shut =
@@ -300,8 +298,8 @@ shut =
     -- without DET the other keys are taken
     ∷ case off (types "x" 3 0 "ABxdeFGH" ∷ press 127 3 0 "ABx eFGH" [] ∷ press 8 2 0 "ABx eFGH" [] ∷ press 9 2 0 "ABx eFGH" [] ∷ [])
     -- 1: too wide, too high, no line. 2: the characters, the attributes
-    ∷ both 1 933 (starting 133 1 false (replicate 133 0) (replicate 133 32) 0 0)
-    ∷ both 1 457 (starting 1 65 false (replicate 65 0) (replicate 65 32) 0 0)
+    ∷ both 1 933 (starting 133 1 false (replicate 133 32) (replicate 133 0) 0 0)
+    ∷ both 1 457 (starting 1 65 false (replicate 65 32) (replicate 65 0) 0 0)
     ∷ both 1 2 (starting 4 0 false [] [] 0 0)
     ∷ both 2 30 (line 4 (characters "abc") 0) ∷ both 2 23 (line 3 (characters "abc") 0)
     -- 3: 31 and 127, where 32 and 126 are taken
@@ -318,16 +316,16 @@ shut-holds = refl
 
 -- ---- what a turn does not show: the bytes held, and the reply buffer past the bytes written
 
-abbrev heldAfter : List ℕ → Held
-heldAfter input = (called (label false 2 0) (host input (replicate 58 7))) .answer .session .held
+abbrev heldIn : List ℕ → Held
+heldIn input = (called (label false 2 0) (host input (replicate 58 7))) .answer .session .reader .held
 
 pub record Unseen : Type 0 where
   -- half read: the bytes after the option byte, six of them at most
-  pub half : heldAfter (0xff ∷ 0xfa ∷ 0x14 ∷ 7 ∷ 8 ∷ []) ≡ record { bytes = 7 ∷ 8 ∷ replicate 4 0; count = 2 }
-  pub long : heldAfter (0xff ∷ 0xfa ∷ 0x14 ∷ 1 ∷ 2 ∷ replicate 9 3) ≡ record { bytes = 1 ∷ 2 ∷ replicate 4 3; count = 6 }
+  pub half : heldIn (0xff ∷ 0xfa ∷ 0x14 ∷ 7 ∷ 8 ∷ []) ≡ record { bytes = 7 ∷ 8 ∷ replicate 4 0; count = 2 }
+  pub long : heldIn (0xff ∷ 0xfa ∷ 0x14 ∷ 1 ∷ 2 ∷ replicate 9 3) ≡ record { bytes = 1 ∷ 2 ∷ replicate 4 3; count = 6 }
   -- obeyed, answered by an ERROR, ignored, thrown away: none
   pub none :
-      map heldAfter (det (11 ∷ []) ∷ det (11 ∷ 1 ∷ []) ∷ (0xff ∷ 0xfa ∷ 21 ∷ 11 ∷ 0xff ∷ 0xf0 ∷ []) ∷ (0xff ∷ 0xfa ∷ 0x14 ∷ 11 ∷ verb 253 3) ∷ [])
+      map heldIn (det (11 ∷ []) ∷ det (11 ∷ 1 ∷ []) ∷ (0xff ∷ 0xfa ∷ 21 ∷ 11 ∷ 0xff ∷ 0xf0 ∷ []) ∷ (0xff ∷ 0xfa ∷ 0x14 ∷ 11 ∷ verb 253 3) ∷ [])
       ≡ replicate 4 noneHeld
   -- eight bytes written, the rest as lent; refused, all as lent
   pub lent : (called (label false 2 0) (host (det (17 ∷ [])) (replicate 58 7))) .reply ≡ det (18 ∷ 2 ∷ 0 ∷ []) ++ replicate 50 7

@@ -10,34 +10,54 @@ use lib.ListN.{length, length-replicate, replicate}
 use Rattle.screen.specs.Words.{between}
 use Rattle.screen.specs.Cells.{onScreen}
 use Rattle.screen.proofs.WordLaws.{either, not-both, and-left, and-right}
-use Rattle.rules.specs.declared.Session.{Session}
+use Rattle.telnet.specs.declared.Event.{Event}
+use Rattle.telnet.specs.declared.Event.the-variants.{Nothing, Data, Negotiation, Begin, Sub, End, EndBare, Lost}
+use Rattle.rules.specs.declared.Held.{Held}
+use Rattle.rules.specs.declared.Frame.{Frame}
 use Rattle.rules.specs.declared.Refusal.the-variants.{Taken, Size}
-use Rattle.rules.specs.Session.{cells, replyRoom, fresh, allPrintable, sessionOk}
+use Rattle.rules.specs.Session.{Screen, State, cells, replyRoom, freshFrame, fresh, state, viewOf, allPrintable, sessionOk}
 use Rattle.rules.specs.Refusal.{isTaken, Test, verdict, sizeTests, stateTests}
+use Rattle.rules.specs.Telnet.{holding, heldAfter}
 use Rattle.rules.specs.Key.{keyOf, keyTests}
-use Rattle.rules.specs.Operation.{State, Outcome, running, unless, hostRefusal, hostBytes, oneKey, opened}
+use Rattle.rules.specs.Operation.{Outcome, hostByte, running, unless, hostRefusal, hostBytes, keyRan, oneKey, opened}
 use Rattle.rules.specs.Call.{Call, host, key, called, left, stateAfter}
 use Rattle.rules.proofs.Refusals.{asked}
-use Rattle.rules.proofs.Calls.{byteRan, keyRan, lent, refusalOf, ranBy, called-cases}
+use Rattle.rules.proofs.Calls.{lent, refusalOf, ranBy, called-cases}
 use Rattle.rules.proofs.Characters.{Text}
 use Rattle.rules.proofs.Views.{SoundView}
-use Rattle.rules.proofs.Effects.{keeps-byte, keeps-key}
+use Rattle.rules.proofs.Effects.{keeps-happening, keeps-key}
 
 -- What refusals 1 to 4 ask of a state, its screen being m cells wide and n lines high.
 pub record Sound (m n : ℕ) (s : State) : Type 0 where
-  pub view : SoundView m n (s .view)
-  pub chars : Text (n * m) (s .chars)
+  pub view : SoundView m n (viewOf s)
+  pub held : s .session .reader .held .count ≤ 6
+  pub chars : Text (n * m) (s .screen .chars)
 
 -- ---- it stays so
 
+-- the count of held bytes stops at 6
+held-few : (h : Held) → h .count ≤ 6 → (e : Event) → (heldAfter h e) .count ≤ 6
+unfolding heldAfter holding
+held-few h l Nothing = l
+held-few h l (Data b) = l
+held-few h l (Negotiation verb option) = l
+held-few h l (Begin option) = omega arith
+held-few h l (Sub option b) = either (λ (x : Held). x .count ≤ 6) (ltb (h .count) 6) (λ e. omega (arith, ltb-true)) (λ e. l)
+held-few h l (End option) = omega arith
+held-few h l EndBare = omega arith
+held-few h l Lost = omega arith
+
 module _ {m n : ℕ} {s : State} (k : Sound m n s) where
   -- a host byte
-  pub sound-byte : (b : ℕ) → Sound m n ((byteRan s b) .state)
-  sound-byte b = let e = keeps-byte (k .view) b in record { view = e .view; chars = e .changes _ _ (k .chars) }
+  pub sound-byte : (b : ℕ) → Sound m n ((hostByte s b) .state)
+  unfolding hostByte
+  sound-byte b =
+      let e = keeps-happening (k .view) (s .session .reader .held) _ in
+      record { view = e .view; held = held-few _ (k .held) _; chars = e .changes _ _ (k .chars) }
 
   -- a key
   pub sound-key : (code : ℕ) → Sound m n ((keyRan s code) .state)
-  sound-key code = let e = keeps-key (k .view) code in record { view = e .view; chars = e .changes _ _ (k .chars) }
+  sound-key code = let e = keeps-key (k .view) code in record { view = e .view; held = k .held; chars = e .changes _ _ (k .chars) }
 
 -- host bytes
 pub sound-running : {m n : ℕ} {s : State} → Sound m n s → (bs : List ℕ) → Sound m n ((running s bs) .state)
@@ -65,43 +85,45 @@ halves : (a b : Bool) → (a && b) ≡ true → (a ≡ true) × (b ≡ true)
 halves a b e = (and-left a b e, and-right a b e)
 
 -- what refusals 1 and 2 ask
-abbrev Sizes : Session → List ℕ → List ℕ → Type 0
-Sizes s attrs chars =
-    (1 ≤ s .width) × (s .width ≤ 132) × (1 ≤ s .height) × (s .height ≤ 64) × (length chars ≡ cells s) × (length attrs ≡ cells s)
+abbrev Sizes : Frame → Screen → Type 0
+Sizes f b =
+    (1 ≤ f .width) × (f .width ≤ 132) × (1 ≤ f .height) × (f .height ≤ 64) × (length (b .chars) ≡ cells f) × (length (b .attrs) ≡ cells f)
 
-sizes-of : (s : Session) (attrs chars : List ℕ) (others : List Test)
-    → isTaken (verdict (sizeTests s attrs chars ++ others)) ≡ true
-    → Sizes s attrs chars × (isTaken (verdict others) ≡ true)
+sizes-of : (f : Frame) (b : Screen) (others : List Test) → isTaken (verdict (sizeTests f b ++ others)) ≡ true
+    → Sizes f b × (isTaken (verdict others) ≡ true)
 unfolding sizeTests
-sizes-of s attrs chars others e =
+sizes-of f b others e =
     let size = asked _ _ refl e in
     let buffers = asked _ _ refl (size .1) in
-    let z = halves (between 1 132 (s .width)) (between 1 64 (s .height)) (size .0) in
-    let w = halves (leb 1 (s .width)) (leb (s .width) 132) (z .0) in
-    let h = halves (leb 1 (s .height)) (leb (s .height) 64) (z .1) in
-    let b = halves (eqb (length chars) (cells s)) (eqb (length attrs) (cells s)) (buffers .0) in
+    let z = halves (between 1 132 (f .width)) (between 1 64 (f .height)) (size .0) in
+    let w = halves (leb 1 (f .width)) (leb (f .width) 132) (z .0) in
+    let h = halves (leb 1 (f .height)) (leb (f .height) 64) (z .1) in
+    let l = halves (eqb (length (b .chars)) (cells f)) (eqb (length (b .attrs)) (cells f)) (buffers .0) in
     (omega (arith, leb-true, eqb-true), buffers .1)
 
 -- what refusals 1 to 5 ask
 pub record Accepted (s : State) (reply : List ℕ) : Type 0 where
-  pub sound : Sound (s .view .session .width) (s .view .session .height) s
-  pub room : replyRoom (s .view .session) ≤ length reply
+  pub sound : Sound (s .session .frame .width) (s .session .frame .height) s
+  pub room : replyRoom (s .session .frame) ≤ length reply
 
-accepted : (s : State) (reply : List ℕ) (others : List Test) →
-    let v = s .view in
-    isTaken (verdict (sizeTests (v .session) (v .attrs) (s .chars) ++ (stateTests (v .session) (s .chars) reply ++ others))) ≡ true
+accepted : (s : State) (reply : List ℕ) (others : List Test)
+    → isTaken (verdict (sizeTests (s .session .frame) (s .screen) ++ (stateTests (s .session) (s .screen .chars) reply ++ others))) ≡ true
     → Accepted s reply
 unfolding stateTests sessionOk
 accepted s reply others e =
-    let v = s .view .session in
-    let z = sizes-of _ _ _ _ e in
+    let f = s .session .frame in
+    let z = sizes-of _ _ _ e in
     let text = asked _ _ refl (z .1) in
     let session = asked _ _ refl (text .1) in
     let room = asked _ _ refl (session .1) in
-    let o = halves (onScreen (v .width) (v .height) (v .cursor)) (leb (v .held .count) 6) (session .0) in
-    let p = halves (ltb (v .cursor .x .0) (v .width)) (ltb (v .cursor .y .0) (v .height)) (o .0) in
+    let o = halves (onScreen (f .width) (f .height) (f .cursor)) (leb (s .session .reader .held .count) 6) (session .0) in
+    let p = halves (ltb (f .cursor .x .0) (f .width)) (ltb (f .cursor .y .0) (f .height)) (o .0) in
     record {
-      sound = record { view = omega (arith, leb-true, ltb-true); chars = record { long = omega arith; printing = text .0 } };
+      sound = record {
+        view = omega (arith, ltb-true);
+        held = omega (arith, leb-true);
+        chars = record { long = omega arith; printing = text .0 };
+      };
       room = omega (arith, leb-true);
     }
 
@@ -109,10 +131,10 @@ accepted s reply others e =
 pub sound-of : (s : State) (c : Call) → isTaken (refusalOf s c) ≡ true → Accepted s (lent c)
 unfolding stateTests
 sound-of s (host input reply) e = accepted s reply [] e
-sound-of s (key code reply) e = accepted s reply (keyTests (s .view) (keyOf code)) e
+sound-of s (key code reply) e = accepted s reply (keyTests (viewOf s) (keyOf code)) e
 
 -- and host bytes that find these are not refused
-pub passes : {m n : ℕ} {s : State} → Sound m n s → (reply : List ℕ) → replyRoom (s .view .session) ≤ length reply
+pub passes : {m n : ℕ} {s : State} → Sound m n s → (reply : List ℕ) → replyRoom (s .session .frame) ≤ length reply
     → hostRefusal s reply ≡ Taken
 unfolding verdict sizeTests stateTests sessionOk
 passes {m} {n} k reply r =
@@ -120,7 +142,7 @@ passes {m} {n} k reply r =
     let z = v .sizes in
     rw (z .width, z .height, le-leb 1 m (omega arith), le-leb m 132 (z .wide), le-leb 1 n (omega arith), le-leb n 64 (z .high))
     (rw (eq-eqb _ _ (k .chars .long), eq-eqb _ _ (v .attrs), k .chars .printing)
-    (rw (lt-ltb _ m (v .cursor .0), lt-ltb _ n (v .cursor .1), le-leb _ 6 (v .held), le-leb _ _ (rw (z .width, z .height) at r))))
+    (rw (lt-ltb _ m (v .cursor .0), lt-ltb _ n (v .cursor .1), le-leb _ 6 (k .held), le-leb _ _ (rw (z .width, z .height) at r))))
 
 -- ---- open
 
@@ -129,35 +151,33 @@ unfolding allPrintable
 spaces-printable zero = refl
 spaces-printable (suc n) = spaces-printable n
 
-no-screen : (attrs chars : List ℕ) (c : Call)
-    → (called (record { view = record { session = fresh 0 0; attrs = attrs }; chars = chars }) c) .answer .refusal ≡ Size
+no-screen : (b : Screen) (c : Call) → (called (state (fresh 0 0) b) c) .answer .refusal ≡ Size
 unfolding called hostBytes oneKey unless verdict sizeTests
-no-screen attrs chars (host input reply) = refl
-no-screen attrs chars (key code reply) = refl
+no-screen b (host input reply) = refl
+no-screen b (key code reply) = refl
 
-module _ (m n : ℕ) (attrs chars : List ℕ) where
+module _ (m n : ℕ) (b : Screen) where
   -- an open that is not refused
-  pub sound-open : (opened m n attrs chars) .answer .refusal ≡ Taken → Sound m n (left (opened m n attrs chars))
+  pub sound-open : (opened m n b) .answer .refusal ≡ Taken → Sound m n (left (opened m n b))
   unfolding opened unless sizeTests
   sound-open =
-      either (λ o. o .answer .refusal ≡ Taken → Sound m n (left o)) (isTaken (verdict (sizeTests (fresh m n) attrs chars)))
+      either (λ o. o .answer .refusal ≡ Taken → Sound m n (left o)) (isTaken (verdict (sizeTests (freshFrame m n) b)))
       (λ t e.
-      let z = sizes-of (fresh m n) attrs chars [] t .0 in
+      let z = sizes-of (freshFrame m n) b [] t .0 in
       record {
         view = omega (arith, length-replicate {A = ℕ} (n * m) 0);
+        held = omega arith;
         chars = record { long = length-replicate (n * m) 32; printing = spaces-printable (n * m) };
       })
-      (λ f e. not-both (isTaken (verdict (sizeTests (fresh m n) attrs chars))) (rw e) f)
+      (λ f e. not-both (isTaken (verdict (sizeTests (freshFrame m n) b))) (rw e) f)
 
-  refused-open : ((opened m n attrs chars) .answer .refusal ≡ Taken → ⊥) → (opened m n attrs chars) .answer .session ≡ fresh 0 0
+  refused-open : ((opened m n b) .answer .refusal ≡ Taken → ⊥) → (opened m n b) .answer .session ≡ fresh 0 0
   unfolding opened unless
   refused-open =
       either (λ (o : Outcome). (o .answer .refusal ≡ Taken → ⊥) → o .answer .session ≡ fresh 0 0)
-      (isTaken (verdict (sizeTests (fresh m n) attrs chars))) (λ t r. absurd (r refl)) (λ f r. refl)
+      (isTaken (verdict (sizeTests (freshFrame m n) b))) (λ t r. absurd (r refl)) (λ f r. refl)
 
   -- a refused open's session is refused by every call, with 1, whatever is lent
-  pub refused-open-refused : ((opened m n attrs chars) .answer .refusal ≡ Taken → ⊥) → (attrs′ chars′ : List ℕ) (c : Call)
-      → (called (record { view = record { session = (opened m n attrs chars) .answer .session; attrs = attrs′ }; chars = chars′ }) c)
-      .answer .refusal
-      ≡ Size
-  refused-open-refused r attrs′ chars′ c = rw (refused-open r) (no-screen attrs′ chars′ c)
+  pub refused-open-refused : ((opened m n b) .answer .refusal ≡ Taken → ⊥) → (lent : Screen) (c : Call)
+      → (called (state ((opened m n b) .answer .session) lent) c) .answer .refusal ≡ Size
+  refused-open-refused r lent c = rw (refused-open r) (no-screen lent c)

@@ -7,7 +7,6 @@ use native.Mathlib.Omega.{arith}
 use borrow.Author.Tests.{ltb-true}
 use lib.Dec.{ltb}
 use lib.ListN.{length}
-use Rattle.telnet.specs.declared.Phase.{Phase}
 use Rattle.screen.specs.declared.cell.Place.{Place}
 use Rattle.screen.specs.Words.{if_then_else_}
 use Rattle.screen.specs.Cells.{place, placeOf, lineStart}
@@ -18,8 +17,8 @@ use Rattle.screen.proofs.FieldLaws.{start-le}
 use Rattle.rules.specs.declared.Held.{Held}
 use Rattle.rules.specs.declared.Direction.{Direction}
 use Rattle.rules.specs.declared.Direction.the-variants.{Up, Down, Left, Right}
-use Rattle.rules.specs.Session.{View, cursorCell, withCursor, withModes, withReader, withAttrs}
-use Rattle.rules.specs.Telnet.{holding, stepped, nextPlace}
+use Rattle.rules.specs.Session.{View, cursorCell, withCursor, withModes, withAttrs}
+use Rattle.rules.specs.Telnet.{stepped, nextPlace}
 use Rattle.rules.specs.Subcommand.{limited, movedTo, homeCell, backTabCell, firstFieldCell}
 use Rattle.rules.specs.Key.{previousOpen, nextField}
 -- the worked cases are checked first, so that a wrong rule is refused there
@@ -38,9 +37,8 @@ pub record Sized (m n w h : ℕ) : Type 0 where
 
 -- What refusals 1, 2 and 4 ask of a view, its screen being m cells wide and n lines high.
 pub record SoundView (m n : ℕ) (v : View) : Type 0 where
-  pub sizes : Sized m n (v .session .width) (v .session .height)
-  pub cursor : On m n (v .session .cursor)
-  pub held : v .session .held .count ≤ 6
+  pub sizes : Sized m n (v .frame .width) (v .frame .height)
+  pub cursor : On m n (v .frame .cursor)
   pub attrs : length (v .attrs) ≡ n * m
 
 -- a cell of the screen
@@ -55,25 +53,15 @@ module _ {m n : ℕ} {v : View} (k : SoundView m n v) where
 
   -- the cursor elsewhere on the screen
   pub at-place : (p : Place) → On m n p → SoundView m n (withCursor v p)
-  at-place p h = record { sizes = k .sizes; cursor = h; held = k .held; attrs = k .attrs }
+  at-place p h = record { sizes = k .sizes; cursor = h; attrs = k .attrs }
 
   -- other modes
   pub switched : (det suppressed : Bool) → SoundView m n (withModes v det suppressed)
-  switched det suppressed = record { sizes = k .sizes; cursor = k .cursor; held = k .held; attrs = k .attrs }
-
-  -- the reader elsewhere, with at most six bytes held
-  pub reading : (p : Phase) (h : Held) → h .count ≤ 6 → SoundView m n (withReader v p h)
-  reading p h l = record { sizes = k .sizes; cursor = k .cursor; held = l; attrs = k .attrs }
+  switched det suppressed = record { sizes = k .sizes; cursor = k .cursor; attrs = k .attrs }
 
   -- other attribute bytes, as many as before
   pub attributed : (attrs : List ℕ) → length attrs ≡ length (v .attrs) → SoundView m n (withAttrs v attrs)
-  attributed attrs e = record { sizes = k .sizes; cursor = k .cursor; held = k .held; attrs = e ∙ k .attrs }
-
-  -- the count of held bytes stops at 6
-  pub held-few : (b : ℕ) → (holding (v .session .held) b) .count ≤ 6
-  unfolding holding
-  held-few b =
-      either (λ (h : Held). h .count ≤ 6) (ltb (v .session .held .count) 6) (λ e. omega (arith, ltb-true)) (λ e. k .held)
+  attributed attrs e = record { sizes = k .sizes; cursor = k .cursor; attrs = e ∙ k .attrs }
 
   -- ---- places where the cursor goes
 
@@ -82,7 +70,7 @@ module _ {m n : ℕ} {v : View} (k : SoundView m n v) where
   origin-on = omega arith
 
   -- a step stops at the edge
-  pub stepped-on : (d : Direction) → On m n (stepped (v .session) d)
+  pub stepped-on : (d : Direction) → On m n (stepped (v .frame) d)
   unfolding stepped
   stepped-on Up = omega arith
   stepped-on Down = (k .cursor .0, one-more _ _ n (k .sizes .height) (k .cursor .1))
@@ -90,11 +78,11 @@ module _ {m n : ℕ} {v : View} (k : SoundView m n v) where
   stepped-on Right = (one-more _ _ m (k .sizes .width) (k .cursor .0), k .cursor .1)
 
   -- the place after a host character
-  pub next-on : On m n (nextPlace (v .session))
+  pub next-on : On m n (nextPlace (v .frame))
   unfolding nextPlace
   next-on =
-      either (On m n) (ltb (v .session .cursor .x .0 + 1) (v .session .width)) (λ e. omega (arith, ltb-true))
-      (λ e. either (On m n) (ltb (v .session .cursor .y .0 + 1) (v .session .height)) (λ q. omega (arith, ltb-true))
+      either (On m n) (ltb (v .frame .cursor .x .0 + 1) (v .frame .width)) (λ e. omega (arith, ltb-true))
+      (λ e. either (On m n) (ltb (v .frame .cursor .y .0 + 1) (v .frame .height)) (λ q. omega (arith, ltb-true))
       (λ q. k .cursor))
 
   -- MOVE CURSOR's limits
@@ -104,7 +92,7 @@ module _ {m n : ℕ} {v : View} (k : SoundView m n v) where
   -- ---- cells where the cursor goes
 
   -- the place of a cell
-  pub place-on : (cell : ℕ) → Within v cell → On m n (placeOf (v .session .width) cell)
+  pub place-on : (cell : ℕ) → Within v cell → On m n (placeOf (v .frame .width) cell)
   place-on cell h = rw (k .sizes .width) (place-on-screen m n cell (rw (k .attrs) at h))
 
   -- the cursor on a cell
@@ -122,12 +110,12 @@ module _ {m n : ℕ} {v : View} (k : SoundView m n v) where
   -- home
   pub home-lt : Within v (homeCell v)
   unfolding homeCell
-  home-lt = either (Within v) (v .session .suppressed) (λ e. some) (λ e. first-below _ 0 0 _ _ (omega arith) some)
+  home-lt = either (Within v) (v .frame .suppressed) (λ e. some) (λ e. first-below _ 0 0 _ _ (omega arith) some)
 
   -- reverse tab
   pub back-tab-lt : Within v (backTabCell v)
   unfolding backTabCell
-  back-tab-lt = either (Within v) (v .session .suppressed) (λ e. some) (λ e. last-below _ 0 _ _ (omega arith) some)
+  back-tab-lt = either (Within v) (v .frame .suppressed) (λ e. some) (λ e. last-below _ 0 _ _ (omega arith) some)
 
   -- the first unprotected field's start
   pub first-field-lt : Within v (firstFieldCell v)
@@ -146,7 +134,7 @@ module _ {m n : ℕ} {v : View} (k : SoundView m n v) where
       first-below _ _ (cursorCell v + 1) _ _ (omega (arith, cursor-lt)) (first-below _ (cursorCell v) 0 _ _ (omega arith) cursor-lt)
 
   -- the first cell of the cursor's line
-  pub line-lt : Within v (lineStart (v .session .width) (v .session .cursor .y))
+  pub line-lt : Within v (lineStart (v .frame .width) (v .frame .cursor .y))
   line-lt = omega (arith, cursor-lt)
 
   -- and of its field

@@ -12,8 +12,8 @@ abbrev formF : ℕ → ℕ → List Turn → Case
 formF x y turns =
     record {
       start = starting 8 2 false
-          (replicate 3 8 ++ (replicate 3 0 ++ (replicate 7 8 ++ replicate 3 0)))
-          (characters "WT 70 #4UNIT mg ") x y;
+          (characters "WT 70 #4UNIT mg ")
+          (replicate 3 8 ++ (replicate 3 0 ++ (replicate 7 8 ++ replicate 3 0))) x y;
       turns = turns;
     }
 

@@ -5,7 +5,8 @@ use Rattle.rules.specs.declared.Answer.{Answer}
 use Rattle.screen.specs.Words.{if_then_else_}
 use Rattle.rules.specs.Refusal.{isTaken}
 use Rattle.rules.specs.Effect.{Executed}
-use Rattle.rules.specs.Operation.{State, Outcome, hostBytes, hostRefusal, hostRan, oneKey}
+use Rattle.rules.specs.Session.{State, state}
+use Rattle.rules.specs.Operation.{Outcome, hostBytes, hostRefusal, hostRan, oneKey}
 
 pub data Call : Type 0 where
   host : List ℕ → List ℕ → Call  -- the input, the reply buffer
@@ -17,7 +18,7 @@ called s (key k reply) = oneKey s reply k
 
 -- what the next call finds
 abbrev pub left : Outcome → State
-left o = record { view = record { session = o .answer .session; attrs = o .attrs }; chars = o .chars }
+left o = state (o .answer .session) (o .screen)
 
 -- a call's answer is all it returns, and the reply buffer after it
 pub record Answered : Type 0 where

@@ -8,9 +8,9 @@ use Prim.Native.String as string
 use lib.ListN.{take, replicate}
 use Rattle.telnet.specs.declared.Phase.the-variants.{Rest}
 use Rattle.screen.specs.Cells.{place}
-use Rattle.rules.specs.Session.{noneHeld}
+use Rattle.rules.specs.Session.{State, noneHeld, session, screen, state}
 use Rattle.rules.specs.Refusal.{numberOf}
-use Rattle.rules.specs.Operation.{State, Outcome}
+use Rattle.rules.specs.Operation.{Outcome}
 use Rattle.rules.specs.Call.{Call, host, key, called, left}
 
 -- the characters of a text
@@ -31,9 +31,9 @@ look o =
     record {
       refusal = numberOf (o .answer .refusal);
       taken = o .answer .taken;
-      x = o .answer .session .cursor .x .0;
-      y = o .answer .session .cursor .y .0;
-      chars = o .chars;
+      x = o .answer .session .frame .cursor .x .0;
+      y = o .answer .session .frame .cursor .y .0;
+      chars = o .screen .chars;
       replies = take (o .answer .written) (o .reply);
     }
 
@@ -58,14 +58,12 @@ observed cases = map (λ c. seenIn (c .start) (c .turns)) cases
 
 -- a start with DET on
 abbrev pub starting : ℕ → ℕ → Bool → List ℕ → List ℕ → ℕ → ℕ → State
-starting m n suppressed attrs chars x y =
-    record {
-      view = record {
-        session = record { width = m; height = n; cursor = place x y; det = true; suppressed = suppressed; phase = Rest; held = noneHeld };
-        attrs = attrs;
-      };
-      chars = chars;
-    }
+starting m n suppressed chars attrs x y =
+    state
+    (session
+    (record { width = m; height = n; cursor = place x y; det = true; suppressed = suppressed })
+    (record { phase = Rest; held = noneHeld }))
+    (screen chars attrs)
 
 -- host bytes, or a key, with so much reply room
 abbrev pub hostTurn : ℕ → List ℕ → Seen → Turn

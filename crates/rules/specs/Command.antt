@@ -98,7 +98,7 @@ faultNumber BadMap = 12
 -- the ERROR that the parameters' values draw, their count being right
 unfoldable pub valueFault : View → Command → Held → Fault
 valueFault v MoveCursor h =
-    if ltb (parameter h 0) (v .session .width) && ltb (parameter h 1) (v .session .height) then NoFault else OffScreen
+    if ltb (parameter h 0) (v .frame .width) && ltb (parameter h 1) (v .frame .height) then NoFault else OffScreen
 valueFault v FormatData h =
     if not (leb (parameter h 0) 31 && eqb (parameter h 1) 0) then BadMap
     else if leb (cursorCell v + formatCount h) (screenEnd v) then NoFault

@@ -11,7 +11,7 @@ use Rattle.screen.specs.Classes.{takes}
 use Rattle.rules.specs.Session.{allPrintable, sessionOk}
 use Rattle.rules.specs.Refusal.{verdict, sizeTests, stateTests}
 use Rattle.rules.specs.Effect.{changed, changedAll, spelled, spelledAll}
-use Rattle.rules.specs.Telnet.{holding, negotiated, stepped, nextPlace, hostCharacter, hostCharacters, hostData}
+use Rattle.rules.specs.Telnet.{holding, heldAfter, negotiated, stepped, nextPlace, hostCharacter, hostCharacters, hostData}
 use Rattle.rules.specs.Command.{commandOf, parametersOf, valueFault, faultOf, sendsPast, erasesPast, reachesPast}
 use Rattle.rules.specs.Subcommand.{homeCell, backTabCell, firstFieldCell, fieldTexts, transmitted, erasure, ownMap, suppressing, obeyed, judged, looked, subcommand}
 use Rattle.rules.specs.Key.{keyOf, hasMeaning, detAllows, guardAllows, classAllows, keyTests, previousOpen, nextField, pressed}
@@ -19,5 +19,5 @@ use Rattle.rules.specs.Operation.{happening, hostByte, running, unless, 
 use Rattle.rules.specs.Call.{called, answersOf, stateAfter, executedBy, executedOf}
 
 unfoldable pub computing : ℕ
-unfolding reader doubled subnegotiation negotiation firstOf lastOf tabulate protectedAt startsAt opensAt fieldStart fieldEnd spanEnd nextOpen deleted inserted shifted onPart erased formatted takes allPrintable sessionOk verdict sizeTests stateTests changed changedAll spelled spelledAll holding negotiated stepped nextPlace hostCharacter hostCharacters hostData commandOf parametersOf valueFault faultOf sendsPast erasesPast reachesPast homeCell backTabCell firstFieldCell fieldTexts transmitted erasure ownMap suppressing obeyed judged looked subcommand keyOf hasMeaning detAllows guardAllows classAllows keyTests previousOpen nextField pressed happening hostByte running unless takenOf hostBytes oneKey opened called answersOf stateAfter executedBy executedOf
+unfolding reader doubled subnegotiation negotiation firstOf lastOf tabulate protectedAt startsAt opensAt fieldStart fieldEnd spanEnd nextOpen deleted inserted shifted onPart erased formatted takes allPrintable sessionOk verdict sizeTests stateTests changed changedAll spelled spelledAll holding heldAfter negotiated stepped nextPlace hostCharacter hostCharacters hostData commandOf parametersOf valueFault faultOf sendsPast erasesPast reachesPast homeCell backTabCell firstFieldCell fieldTexts transmitted erasure ownMap suppressing obeyed judged looked subcommand keyOf hasMeaning detAllows guardAllows classAllows keyTests previousOpen nextField pressed happening hostByte running unless takenOf hostBytes oneKey opened called answersOf stateAfter executedBy executedOf
 computing = 0

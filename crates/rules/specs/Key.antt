@@ -46,9 +46,9 @@ unfoldable pub detAllows : View → Key → Bool
 detAllows v (Typed c) = true
 detAllows v Back = true
 detAllows v Tab = true
-detAllows v Send = v .session .det
+detAllows v Send = v .frame .det
 detAllows v Delete = true
-detAllows v (Function n) = v .session .det
+detAllows v (Function n) = v .frame .det
 detAllows v Meaningless = true
 
 -- a typed character or the delete key wants a cell that is not guarded
@@ -63,7 +63,7 @@ guardAllows v Meaningless = true
 
 -- a typed character is of the cell's class; not tested while suppressed
 unfoldable pub classAllows : View → Key → Bool
-classAllows v (Typed c) = v .session .suppressed || takes (attributeAt (v .attrs) (cursorCell v)) c
+classAllows v (Typed c) = v .frame .suppressed || takes (attributeAt (v .attrs) (cursorCell v)) c
 classAllows v Back = true
 classAllows v Tab = true
 classAllows v Send = true
@@ -83,7 +83,7 @@ keyTests v k =
 
 -- 8: back to the nearest open cell, if there is one
 unfoldable pub previousOpen : View → ℕ
-previousOpen v = lastBefore (λ i. not (guardedAt (v .session .suppressed) (v .attrs) i)) (v .attrs) (cursorCell v) (cursorCell v)
+previousOpen v = lastBefore (λ i. not (guardedAt (v .frame .suppressed) (v .attrs) i)) (v .attrs) (cursorCell v) (cursorCell v)
 
 -- 9: on to the next unprotected field, or round to the first, if there is any
 unfoldable pub nextField : View → ℕ
@@ -92,7 +92,7 @@ nextField v =
 
 unfoldable pub pressed : View → Key → Effect
 -- a character that is typed moves the cursor on to an open cell
-pressed v (Typed c) = changing (movedTo v (nextOpen (v .session .suppressed) (v .attrs) (cursorCell v))) (put (cursorCell v) c ∷ [])
+pressed v (Typed c) = changing (movedTo v (nextOpen (v .frame .suppressed) (v .attrs) (cursorCell v))) (put (cursorCell v) c ∷ [])
 -- 8, 9
 pressed v Back = quiet (movedTo v (previousOpen v))
 pressed v Tab = quiet (movedTo v (nextField v))

@@ -8,60 +8,62 @@ use Rattle.telnet.specs.declared.Event.{Event}
 use Rattle.telnet.specs.declared.Event.the-variants.{Nothing, Data, Negotiation, Begin, Sub, End, EndBare, Lost}
 use Rattle.telnet.specs.Reader.{readOf}
 use Rattle.screen.specs.Words.{if_then_else_}
+use Rattle.rules.specs.declared.Held.{Held}
+use Rattle.rules.specs.declared.Reader.{Reader}
 use Rattle.rules.specs.declared.Refusal.{Refusal}
 use Rattle.rules.specs.declared.Refusal.the-variants.{Taken}
 use Rattle.rules.specs.declared.Answer.{Answer}
-use Rattle.rules.specs.Session.{View, cells, replyRoom, noneHeld, fresh, withReader}
+use Rattle.rules.specs.Session.{Screen, State, View, cells, replyRoom, session, freshFrame, fresh, screen, state, viewOf}
 use Rattle.rules.specs.Refusal.{isTaken, verdict, sizeTests, stateTests}
 use Rattle.rules.specs.Effect.{Effect, Executed, changedAll, spelledAll, quiet}
-use Rattle.rules.specs.Telnet.{holding, negotiated, hostData}
+use Rattle.rules.specs.Telnet.{heldAfter, negotiated, hostData}
 use Rattle.rules.specs.Subcommand.{subcommand}
 use Rattle.rules.specs.Key.{keyOf, keyTests, pressed}
 
--- ---- one host byte
+-- ---- what an effect does to a state
 
--- The reader has read the byte, and this is what it told. Held bytes and their count are 0 again at a subnegotiation's option
--- byte, when it has ended and when it was thrown away. One that ended is obeyed if it was option 20's and DET is on.
-unfoldable pub happening : View → Event → Effect
-happening v Nothing = quiet v
-happening v (Data b) = hostData v b
-happening v (Negotiation verb option) = negotiated v verb option
-happening v (Begin option) = quiet (withReader v (v .session .phase) noneHeld)
-happening v (Sub option b) = quiet (withReader v (v .session .phase) (holding (v .session .held) b))
-happening v (End option) =
-    let w = withReader v (v .session .phase) noneHeld in
-    if eqb option 20 && v .session .det then subcommand w (v .session .held) else quiet w
-happening v EndBare = quiet (withReader v (v .session .phase) noneHeld)
-happening v Lost = quiet (withReader v (v .session .phase) noneHeld)
-
-unfoldable pub hostByte : View → ℕ → Effect
-hostByte v b = let r = readOf (v .session .phase) b in happening (withReader v (r .phase) (v .session .held)) (r .event)
-
--- ---- running: a list of host bytes, one after the other, with no reply buffer in it
-
--- a view with its characters, the replies so far and the commands executed
-pub record State : Type 0 where
-  pub view : View
-  pub chars : List ℕ
-
+-- the state afterwards, the replies and the commands executed
 pub record Ran : Type 0 where
   pub state : State
   pub replies : List ℕ
   pub executed : List Executed
 
--- the characters, and the reply as bytes, that an effect gives
-abbrev pub applied : State → Effect → Ran
-applied s e =
+-- the frame and the screen buffers that an effect leaves, with a reader, and its reply as bytes
+abbrev pub applied : State → Reader → Effect → Ran
+applied s r e =
+    let b = s .screen in
     record {
-      state = record { view = e .view; chars = changedAll (s .view .attrs) (e .changes) (s .chars) };
-      replies = spelledAll (s .chars) (e .reply);
+      state = state (session (e .view .frame) r) (screen (changedAll (b .attrs) (e .changes) (b .chars)) (e .view .attrs));
+      replies = spelledAll (b .chars) (e .reply);
       executed = e .executed;
     }
 
+-- ---- one host byte
+
+-- What is done on what the reader told. A subnegotiation that ended is obeyed, with the bytes that were held, if it was option
+-- 20's and DET is on.
+unfoldable pub happening : View → Held → Event → Effect
+happening v h Nothing = quiet v
+happening v h (Data b) = hostData v b
+happening v h (Negotiation verb option) = negotiated v verb option
+happening v h (Begin option) = quiet v
+happening v h (Sub option b) = quiet v
+happening v h (End option) = if eqb option 20 && v .frame .det then subcommand v h else quiet v
+happening v h EndBare = quiet v
+happening v h Lost = quiet v
+
+-- the reader reads it, and what it told is done
+unfoldable pub hostByte : State → ℕ → Ran
+hostByte s b =
+    let r = s .session .reader in
+    let step = readOf (r .phase) b in
+    applied s (record { phase = step .phase; held = heldAfter (r .held) (step .event) }) (happening (viewOf s) (r .held) (step .event))
+
+-- a list of them, one after the other, with no reply buffer in it
 unfoldable pub running : State → List ℕ → Ran
 running s [] = record { state = s; replies = []; executed = [] }
 running s (b ∷ bs) =
-    let one = applied s (hostByte (s .view) b) in
+    let one = hostByte s b in
     let rest = running (one .state) bs in
     record { state = rest .state; replies = one .replies ++ rest .replies; executed = one .executed ++ rest .executed }
 
@@ -69,29 +71,21 @@ running s (b ∷ bs) =
 
 pub record Outcome : Type 0 where
   pub answer : Answer
+  pub screen : Screen
   pub reply : List ℕ
-  pub attrs : List ℕ
-  pub chars : List ℕ
+
+abbrev pub outcome : Answer → Screen → List ℕ → Outcome
+outcome answer b reply = record { answer = answer; screen = b; reply = reply }
 
 -- the number, the session unchanged, counts of 0, and no lent buffer changed
 abbrev pub refusing : Refusal → State → List ℕ → Outcome
-refusing r s reply =
-    record {
-      answer = record { session = s .view .session; refusal = r; taken = 0; written = 0 };
-      reply = reply;
-      attrs = s .view .attrs;
-      chars = s .chars;
-    }
+refusing r s reply = outcome (record { session = s .session; refusal = r; taken = 0; written = 0 }) (s .screen) reply
 
 -- the replies stand at the buffer's start; the bytes past those written stay as lent
 abbrev pub answering : ℕ → Ran → List ℕ → Outcome
 answering taken r reply =
-    record {
-      answer = record { session = r .state .view .session; refusal = Taken; taken = taken; written = length (r .replies) };
-      reply = r .replies ++ drop (length (r .replies)) reply;
-      attrs = r .state .view .attrs;
-      chars = r .state .chars;
-    }
+    outcome (record { session = r .state .session; refusal = Taken; taken = taken; written = length (r .replies) }) (r .state .screen)
+    (r .replies ++ drop (length (r .replies)) reply)
 
 -- refused, or else done
 unfoldable pub unless : Refusal → State → List ℕ → Outcome → Outcome
@@ -103,13 +97,12 @@ unless r s reply done = if isTaken r then done else refusing r s reply
 unfoldable pub takenOf : State → ℕ → List ℕ → ℕ
 takenOf s free [] = 0
 takenOf s free (b ∷ bs) =
-    let one = applied s (hostByte (s .view) b) in
+    let one = hostByte s b in
     let rest = takenOf (one .state) (free - length (one .replies)) bs in
-    if leb (replyRoom (s .view .session)) free then suc rest else 0
+    if leb (replyRoom (s .session .frame)) free then suc rest else 0
 
 abbrev pub hostRefusal : State → List ℕ → Refusal
-hostRefusal s reply =
-    let v = s .view in verdict (sizeTests (v .session) (v .attrs) (s .chars) ++ stateTests (v .session) (s .chars) reply)
+hostRefusal s reply = verdict (sizeTests (s .session .frame) (s .screen) ++ stateTests (s .session) (s .screen .chars) reply)
 
 abbrev pub hostRan : State → List ℕ → List ℕ → Ran
 hostRan s reply input = running s (take (takenOf s (length reply) input) input)
@@ -122,21 +115,25 @@ hostBytes s reply input =
 
 abbrev pub keyRefusal : State → List ℕ → ℕ → Refusal
 keyRefusal s reply k =
-    let v = s .view in
-    verdict (sizeTests (v .session) (v .attrs) (s .chars) ++ (stateTests (v .session) (s .chars) reply ++ keyTests v (keyOf k)))
+    verdict
+    (sizeTests (s .session .frame) (s .screen) ++ (stateTests (s .session) (s .screen .chars) reply ++ keyTests (viewOf s) (keyOf k)))
+
+-- the reader stays where it is
+abbrev pub keyRan : State → ℕ → Ran
+keyRan s k = applied s (s .session .reader) (pressed (viewOf s) (keyOf k))
 
 unfoldable pub oneKey : State → List ℕ → ℕ → Outcome
-oneKey s reply k = unless (keyRefusal s reply k) s reply (answering 1 (applied s (pressed (s .view) (keyOf k))) reply)
+oneKey s reply k = unless (keyRefusal s reply k) s reply (answering 1 (keyRan s k) reply)
 
 -- ---- open
 
+-- spaces, and attribute bytes 0
+abbrev pub blank : ℕ → Screen
+blank n = screen (replicate n 32) (replicate n 0)
+
 -- Open takes no session and lends no reply buffer. Refused, it returns a fresh session with M and N 0.
-unfoldable pub opened : ℕ → ℕ → List ℕ → List ℕ → Outcome
-opened m n attrs chars =
-    let done : Ran = record {
-      state = record { view = record { session = fresh m n; attrs = replicate (cells (fresh m n)) 0 }; chars = replicate (cells (fresh m n)) 32 };
-      replies = [];
-      executed = [];
-    } in
-    unless (verdict (sizeTests (fresh m n) attrs chars)) (record { view = record { session = fresh 0 0; attrs = attrs }; chars = chars }) []
-    (answering 0 done [])
+unfoldable pub opened : ℕ → ℕ → Screen → Outcome
+opened m n b =
+    let f = freshFrame m n in
+    let done : Ran = record { state = state (fresh m n) (blank (cells f)); replies = []; executed = [] } in
+    unless (verdict (sizeTests f b)) (state (fresh 0 0) b) [] (answering 0 done [])

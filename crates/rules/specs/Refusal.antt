@@ -5,10 +5,11 @@ use Prim.Native.Nat.{ℕ}
 use lib.Dec.{leb, eqb}
 use lib.ListN.{length}
 use Rattle.screen.specs.Words.{if_then_else_}
+use Rattle.rules.specs.declared.Frame.{Frame}
 use Rattle.rules.specs.declared.Session.{Session}
 use Rattle.rules.specs.declared.Refusal.{Refusal}
 use Rattle.rules.specs.declared.Refusal.the-variants.{Taken, Size, BufferLength, BadCharacter, BadSession, ReplyRoom, Guarded, WrongClass, DetOff, NoMeaning}
-use Rattle.rules.specs.Session.{sizesOk, cells, replyRoom, allPrintable, sessionOk}
+use Rattle.rules.specs.Session.{Screen, sizesOk, cells, replyRoom, allPrintable, sessionOk}
 
 -- the table's numbers; 0 where the call is taken
 abbrev pub numberOf : Refusal → ℕ
@@ -40,10 +41,10 @@ verdict [] = Taken
 verdict (t ∷ ts) = if t .passes then verdict ts else t .otherwise
 
 -- 1 and 2, of every operation; open has no others
-unfoldable pub sizeTests : Session → List ℕ → List ℕ → List Test
-sizeTests s attrs chars =
-    test (sizesOk (s .width) (s .height)) Size
-    ∷ test (eqb (length chars) (cells s) && eqb (length attrs) (cells s)) BufferLength
+unfoldable pub sizeTests : Frame → Screen → List Test
+sizeTests f b =
+    test (sizesOk (f .width) (f .height)) Size
+    ∷ test (eqb (length (b .chars)) (cells f) && eqb (length (b .attrs)) (cells f)) BufferLength
     ∷ []
 
 -- 3, 4 and 5, of host bytes and of a key, after those
@@ -51,5 +52,5 @@ unfoldable pub stateTests : Session → List ℕ → List ℕ → List Test
 stateTests s chars reply =
     test (allPrintable chars) BadCharacter
     ∷ test (sessionOk s) BadSession
-    ∷ test (leb (replyRoom s) (length reply)) ReplyRoom
+    ∷ test (leb (replyRoom (s .frame)) (length reply)) ReplyRoom
     ∷ []

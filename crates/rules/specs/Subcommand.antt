@@ -33,19 +33,19 @@ use Rattle.rules.specs.Command.{commandOf, codeIn, parameter, formatCoun
 
 -- the view with the cursor on this cell
 abbrev pub movedTo : View → ℕ → View
-movedTo v cell = withCursor v (placeOf (v .session .width) cell)
+movedTo v cell = withCursor v (placeOf (v .frame .width) cell)
 
 -- 5: a place beyond the screen's edge is brought back to the edge
 abbrev pub limited : View → Held → Place
-limited v h = place (min (parameter h 0) (v .session .width - 1)) (min (parameter h 1) (v .session .height - 1))
+limited v h = place (min (parameter h 0) (v .frame .width - 1)) (min (parameter h 1) (v .frame .height - 1))
 
 -- 12: home is the first open cell of the form; the screen's corner where there is none or nothing is guarded
 unfoldable pub homeCell : View → ℕ
-homeCell v = if v .session .suppressed then 0 else firstFrom (λ i. not (protectedAt (v .attrs) i)) (v .attrs) 0 0
+homeCell v = if v .frame .suppressed then 0 else firstFrom (λ i. not (protectedAt (v .attrs) i)) (v .attrs) 0 0
 
 -- 19: back to the nearest unprotected field that starts before the cursor's cell, or to the corner
 unfoldable pub backTabCell : View → ℕ
-backTabCell v = if v .session .suppressed then 0 else lastBefore (opensAt (v .attrs)) (v .attrs) (cursorCell v) 0
+backTabCell v = if v .frame .suppressed then 0 else lastBefore (opensAt (v .attrs)) (v .attrs) (cursorCell v) 0
 
 -- 21, 35: where the form's first unprotected field starts, or the corner, suppressed or not
 unfoldable pub firstFieldCell : View → ℕ
@@ -55,7 +55,7 @@ firstFieldCell v = firstFrom (opensAt (v .attrs)) (v .attrs) 0 0
 
 -- every transmission starts with 28 and the place of the first cell it sends
 abbrev pub preface : View → ℕ → Part
-preface v cell = let p = placeOf (v .session .width) cell in message (28 ∷ p .x .0 ∷ p .y .0 ∷ [])
+preface v cell = let p = placeOf (v .frame .width) cell in message (28 ∷ p .x .0 ∷ p .y .0 ∷ [])
 
 -- 21: the text of every unprotected field in order, of the n cells from i on, 39 before each
 unfoldable pub fieldTexts : List ℕ → ℕ → ℕ → List Part
@@ -69,9 +69,14 @@ abbrev pub withoutFirst : List Part → List Part
 withoutFirst [] = []
 withoutFirst (p ∷ ps) = ps
 
--- a whole field or its rest; on a guarded cell nothing follows the preface
+-- the cursor's field from a cell on; on a guarded cell the preface names the cursor, and nothing follows it
 abbrev pub unlessGuarded : View → Part → List Part
 unlessGuarded v p = if cursorGuarded v then [] else p ∷ []
+
+abbrev pub fieldFrom : View → ℕ → Effect
+fieldFrom v from =
+    saying v
+    (preface v (if cursorGuarded v then cursorCell v else from) ∷ unlessGuarded v (text from (fieldEnd (v .attrs) (cursorCell v))))
 
 unfoldable pub transmitted : View → Area → Effect
 -- 20: the whole screen; the cursor goes to the corner
@@ -81,19 +86,16 @@ transmitted v Unprotected =
     saying (movedTo v (firstFieldCell v)) (preface v (firstFieldCell v) ∷ withoutFirst (fieldTexts (v .attrs) 0 (screenEnd v)))
 -- 22: the line of the cursor, which then goes to the start of the line below, or of its own where there is none
 transmitted v WholeLine =
-    let s = v .session in
-    saying (withCursor v (place 0 ((stepped s Down) .y .0)))
-    (preface v (lineStart (s .width) (s .cursor .y)) ∷ text (lineStart (s .width) (s .cursor .y)) (lineEnd (s .width) (s .cursor .y)) ∷ [])
+    let f = v .frame in
+    saying (withCursor v (place 0 ((stepped f Down) .y .0)))
+    (preface v (lineStart (f .width) (f .cursor .y)) ∷ text (lineStart (f .width) (f .cursor .y)) (lineEnd (f .width) (f .cursor .y)) ∷ [])
 -- 24, 25: what is left of the screen, or of the line, from the cursor on
 transmitted v RestOfScreen = saying v (preface v (cursorCell v) ∷ text (cursorCell v) (screenEnd v) ∷ [])
 transmitted v RestOfLine =
-    let s = v .session in saying v (preface v (cursorCell v) ∷ text (cursorCell v) (lineEnd (s .width) (s .cursor .y)) ∷ [])
+    let f = v .frame in saying v (preface v (cursorCell v) ∷ text (cursorCell v) (lineEnd (f .width) (f .cursor .y)) ∷ [])
 -- 23, 26: the field that the cursor is in, or what is left of it
-transmitted v WholeField =
-    let start = fieldStart (v .attrs) (cursorCell v) in
-    saying v (preface v (if cursorGuarded v then cursorCell v else start) ∷ unlessGuarded v (text start (fieldEnd (v .attrs) (cursorCell v))))
-transmitted v RestOfField =
-    saying v (preface v (cursorCell v) ∷ unlessGuarded v (text (cursorCell v) (fieldEnd (v .attrs) (cursorCell v))))
+transmitted v WholeField = fieldFrom v (fieldStart (v .attrs) (cursorCell v))
+transmitted v RestOfField = fieldFrom v (cursorCell v)
 
 -- ---- erasures
 
@@ -105,14 +107,14 @@ erasure v WholeScreen =
 erasure v Unprotected = changing (movedTo v (firstFieldCell v)) (erase false 0 (screenEnd v) ∷ [])
 -- 30 to 34: the line, the field, and the rests of screen, line and field are blanked where they are not guarded
 erasure v WholeLine =
-    let s = v .session in
-    changing v (erase (s .suppressed) (lineStart (s .width) (s .cursor .y)) (lineEnd (s .width) (s .cursor .y)) ∷ [])
+    let f = v .frame in
+    changing v (erase (f .suppressed) (lineStart (f .width) (f .cursor .y)) (lineEnd (f .width) (f .cursor .y)) ∷ [])
 erasure v WholeField =
-    changing v (erase (v .session .suppressed) (fieldStart (v .attrs) (cursorCell v)) (fieldEnd (v .attrs) (cursorCell v)) ∷ [])
-erasure v RestOfScreen = changing v (erase (v .session .suppressed) (cursorCell v) (screenEnd v) ∷ [])
+    changing v (erase (v .frame .suppressed) (fieldStart (v .attrs) (cursorCell v)) (fieldEnd (v .attrs) (cursorCell v)) ∷ [])
+erasure v RestOfScreen = changing v (erase (v .frame .suppressed) (cursorCell v) (screenEnd v) ∷ [])
 erasure v RestOfLine =
-    let s = v .session in changing v (erase (s .suppressed) (cursorCell v) (lineEnd (s .width) (s .cursor .y)) ∷ [])
-erasure v RestOfField = changing v (erase (v .session .suppressed) (cursorCell v) (fieldEnd (v .attrs) (cursorCell v)) ∷ [])
+    let f = v .frame in changing v (erase (f .suppressed) (cursorCell v) (lineEnd (f .width) (f .cursor .y)) ∷ [])
+erasure v RestOfField = changing v (erase (v .frame .suppressed) (cursorCell v) (fieldEnd (v .attrs) (cursorCell v)) ∷ [])
 
 -- ---- the others
 
@@ -126,7 +128,7 @@ ownMap Formatting = 4 ∷ 144 ∷ 121 ∷ []
 -- the cell after the edit span's last
 abbrev pub cursorSpanEnd : View → ℕ
 cursorSpanEnd v =
-    let s = v .session in spanEnd (s .suppressed) (v .attrs) (cursorCell v) (lineEnd (s .width) (s .cursor .y))
+    let f = v .frame in spanEnd (f .suppressed) (v .attrs) (cursorCell v) (lineEnd (f .width) (f .cursor .y))
 
 -- 15 and 16: nothing on a guarded cell, else the edit span shifted by one
 abbrev pub shifting : View → Shift → Effect
@@ -135,9 +137,9 @@ shifting v s = changing v (if cursorGuarded v then [] else shift s (cursorCell v
 -- 38: suppress, end it, and the two questions
 unfoldable pub suppressing : View → ℕ → Effect
 suppressing v parameter =
-    let s = v .session in
-    if eqb parameter 253 then saying (withModes v (s .det) true) (if s .suppressed then [] else message (38 ∷ 251 ∷ []) ∷ [])
-    else if eqb parameter 254 then saying (withModes v (s .det) false) (if s .suppressed then message (38 ∷ 252 ∷ []) ∷ [] else [])
+    let f = v .frame in
+    if eqb parameter 253 then saying (withModes v (f .det) true) (if f .suppressed then [] else message (38 ∷ 251 ∷ []) ∷ [])
+    else if eqb parameter 254 then saying (withModes v (f .det) false) (if f .suppressed then message (38 ∷ 252 ∷ []) ∷ [] else [])
     else if eqb parameter 251 then saying v (message (38 ∷ 254 ∷ []) ∷ [])
     else quiet v
 
@@ -148,14 +150,14 @@ obeyed v (Facilities facility) h = saying v (message (ownMap facility) ∷ [])
 -- 5
 obeyed v MoveCursor h = quiet (withCursor v (limited v h))
 -- 8, 9, 10, 11
-obeyed v (Step direction) h = quiet (withCursor v (stepped (v .session) direction))
+obeyed v (Step direction) h = quiet (withCursor v (stepped (v .frame) direction))
 -- 12
 obeyed v Home h = quiet (movedTo v (homeCell v))
 -- 15, 16
 obeyed v CharInsert h = shifting v Insertion
 obeyed v CharDelete h = shifting v Deletion
 -- 17: answer 18 x y
-obeyed v ReadCursor h = saying v (message (18 ∷ v .session .cursor .x .0 ∷ v .session .cursor .y .0 ∷ []) ∷ [])
+obeyed v ReadCursor h = saying v (message (18 ∷ v .frame .cursor .x .0 ∷ v .frame .cursor .y .0 ∷ []) ∷ [])
 -- 19
 obeyed v ReverseTab h = quiet (movedTo v (backTabCell v))
 -- 20 to 26

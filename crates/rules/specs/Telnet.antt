@@ -4,6 +4,8 @@ use mathlib.Core.List.{List, [], _∷_, _++_}
 use Prim.Native.Nat.{ℕ, zero, suc, _+_, _-_}
 use lib.Dec.{ltb, eqb}
 use lib.ListN.{set}
+use Rattle.telnet.specs.declared.Event.{Event}
+use Rattle.telnet.specs.declared.Event.the-variants.{Nothing, Data, Negotiation, Begin, Sub, End, EndBare, Lost}
 use Rattle.telnet.specs.declared.Verb.{Verb}
 use Rattle.telnet.specs.declared.Verb.the-variants.{Will, Wont, Do, Dont}
 use Rattle.telnet.specs.Writer.{negotiation}
@@ -12,11 +14,13 @@ use Rattle.screen.specs.Words.{if_then_else_}
 use Rattle.screen.specs.Cells.{place}
 use Rattle.screen.specs.Attributes.{guardedAt}
 use Rattle.rules.specs.declared.Held.{Held}
-use Rattle.rules.specs.declared.Session.{Session}
+use Rattle.rules.specs.declared.Frame.{Frame}
 use Rattle.rules.specs.declared.Direction.{Direction}
 use Rattle.rules.specs.declared.Direction.the-variants.{Up, Down, Left, Right}
-use Rattle.rules.specs.Session.{View, printable, cursorCell, withCursor, withModes}
+use Rattle.rules.specs.Session.{View, printable, noneHeld, cursorCell, withCursor, withModes}
 use Rattle.rules.specs.Effect.{Effect, Part, put, bytes, changing, saying, quiet}
+
+-- ---- items 1 and 2: held bytes
 
 -- one byte more of a subnegotiation: six are held, and the count stops there
 unfoldable pub holding : Held → ℕ → Held
@@ -25,9 +29,21 @@ holding h b =
     then record { bytes = set (h .bytes) (h .count) b; count = h .count + 1 }
     else h
 
+-- After what the reader told. Held bytes and their count are 0 again at a subnegotiation's option byte, once it has ended and
+-- once it was thrown away.
+unfoldable pub heldAfter : Held → Event → Held
+heldAfter h Nothing = h
+heldAfter h (Data b) = h
+heldAfter h (Negotiation verb option) = h
+heldAfter h (Begin option) = noneHeld
+heldAfter h (Sub option b) = holding h b
+heldAfter h (End option) = noneHeld
+heldAfter h EndBare = noneHeld
+heldAfter h Lost = noneHeld
+
 -- is the cell of the cursor guarded
 abbrev pub cursorGuarded : View → Bool
-cursorGuarded v = guardedAt (v .session .suppressed) (v .attrs) (cursorCell v)
+cursorGuarded v = guardedAt (v .frame .suppressed) (v .attrs) (cursorCell v)
 
 -- ---- item 3: negotiation
 
@@ -37,27 +53,27 @@ answer verb option = bytes (negotiation verb option) ∷ []
 unfoldable pub negotiated : View → Verb → ℕ → Effect
 negotiated v Do option =
     if not (eqb option 20) then saying v (answer Wont option)
-    else if v .session .det then quiet v
-    else saying (withModes v true (v .session .suppressed)) (answer Will 20)
+    else if v .frame .det then quiet v
+    else saying (withModes v true (v .frame .suppressed)) (answer Will 20)
 negotiated v Dont option =
-    if eqb option 20 && v .session .det then saying (withModes v false false) (answer Wont 20) else quiet v
+    if eqb option 20 && v .frame .det then saying (withModes v false false) (answer Wont 20) else quiet v
 negotiated v Will option = saying v (answer Dont option)
 negotiated v Wont option = quiet v
 
 -- ---- steps of the cursor, none at the edge
 
-unfoldable pub stepped : Session → Direction → Place
-stepped s Up = place (s .cursor .x .0) (s .cursor .y .0 - 1)
-stepped s Down = place (s .cursor .x .0) (if ltb (s .cursor .y .0 + 1) (s .height) then s .cursor .y .0 + 1 else s .cursor .y .0)
-stepped s Left = place (s .cursor .x .0 - 1) (s .cursor .y .0)
-stepped s Right = place (if ltb (s .cursor .x .0 + 1) (s .width) then s .cursor .x .0 + 1 else s .cursor .x .0) (s .cursor .y .0)
+unfoldable pub stepped : Frame → Direction → Place
+stepped f Up = place (f .cursor .x .0) (f .cursor .y .0 - 1)
+stepped f Down = place (f .cursor .x .0) (if ltb (f .cursor .y .0 + 1) (f .height) then f .cursor .y .0 + 1 else f .cursor .y .0)
+stepped f Left = place (f .cursor .x .0 - 1) (f .cursor .y .0)
+stepped f Right = place (if ltb (f .cursor .x .0 + 1) (f .width) then f .cursor .x .0 + 1 else f .cursor .x .0) (f .cursor .y .0)
 
 -- one cell on, and from the last cell nowhere
-unfoldable pub nextPlace : Session → Place
-nextPlace s =
-    if ltb (s .cursor .x .0 + 1) (s .width) then place (s .cursor .x .0 + 1) (s .cursor .y .0)
-    else if ltb (s .cursor .y .0 + 1) (s .height) then place 0 (s .cursor .y .0 + 1)
-    else s .cursor
+unfoldable pub nextPlace : Frame → Place
+nextPlace f =
+    if ltb (f .cursor .x .0 + 1) (f .width) then place (f .cursor .x .0 + 1) (f .cursor .y .0)
+    else if ltb (f .cursor .y .0 + 1) (f .height) then place 0 (f .cursor .y .0 + 1)
+    else f .cursor
 
 -- ---- item 5: host data
 
@@ -65,7 +81,7 @@ nextPlace s =
 unfoldable pub hostCharacter : View → ℕ → Effect
 hostCharacter v c =
     if cursorGuarded v then quiet v
-    else changing (withCursor v (nextPlace (v .session))) (put (cursorCell v) c ∷ [])
+    else changing (withCursor v (nextPlace (v .frame))) (put (cursorCell v) c ∷ [])
 
 -- the same character so many times
 unfoldable pub hostCharacters : ℕ → View → ℕ → Effect
@@ -79,7 +95,7 @@ hostCharacters (suc n) v c =
 unfoldable pub hostData : View → ℕ → Effect
 hostData v b =
     if printable b then hostCharacter v b
-    else if eqb b 13 then quiet (withCursor v (place 0 (v .session .cursor .y .0)))
-    else if eqb b 10 then quiet (withCursor v (stepped (v .session) Down))
-    else if eqb b 8 then quiet (withCursor v (stepped (v .session) Left))
+    else if eqb b 13 then quiet (withCursor v (place 0 (v .frame .cursor .y .0)))
+    else if eqb b 10 then quiet (withCursor v (stepped (v .frame) Down))
+    else if eqb b 8 then quiet (withCursor v (stepped (v .frame) Left))
     else quiet v

@@ -9,15 +9,25 @@ pub struct Held {
     pub count: u8,
 }
 
-// All that is kept between two calls, besides the lent buffers.
-pub struct Session {
+// What the rules go by: the screen's size, the cursor, DET on or off, protection suppressed or in effect.
+pub struct Frame {
     pub width: u8,
     pub height: u8,
     pub cursor: Place,
     pub det: bool,
     pub suppressed: bool,
+}
+
+// How far the host's bytes are read: where the reader stands, and what is held.
+pub struct Reader {
     pub phase: Phase,
     pub held: Held,
+}
+
+// All that is kept between two calls, besides the lent buffers.
+pub struct Session {
+    pub frame: Frame,
+    pub reader: Reader,
 }
 
 // Why a call is refused; `Taken` where it is not.

@@ -182,7 +182,8 @@ fn print_replies(replies: u64) -> bool {
 
 fn print_all(run: Run, chars: &[u8]) -> bool {
     let session = run.session;
-    let cursor = session.cursor;
+    let frame = session.frame;
+    let cursor = frame.cursor;
     print_cursor(cursor)
         && print_line(chars, 0, WIDTH)
         && print_line(chars, WIDTH, 2 * WIDTH)

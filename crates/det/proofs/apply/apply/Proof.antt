@@ -1,5 +1,6 @@
 -- `apply` meets its contract: the reply, the characters and the attribute bytes are each settled by one call.
 use borrow.Author.Needs.{needs}
+use Rattle.reply.proofs.ReplyLaws.{said}
 use Rattle.det.proofs.apply.apply.Statement.{statement}
 use Rattle.det.proofs.apply.apply.Tie as tie
 
@@ -13,11 +14,11 @@ apply-spec =
     (λ c. search needs)
     (λ c. search needs)
     (λ c. search needs)
-    (λ c phase held. let f = c .before .before in
+    (λ c. let f = c .before .before in
     let d = f .before .before .before .before in
-    let done = d .change-chars .ensures phase held in
+    let done = d .change-chars .ensures in
     record {
-      changes = record { session = done .session; characters = done .characters };
+      changes = record { frame = done .frame; characters = done .characters };
       attributes = f .format-attrs .ensures;
-      replies = d .before .before .before .before .before .write-reply .ensures;
+      replies = let w = d .before .before .before .before .before in said (w .before .before .before .before .before .before .before .pre) (w .write-reply .ensures);
     }))

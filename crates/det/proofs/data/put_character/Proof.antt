@@ -10,10 +10,10 @@ put-character-spec =
     (tie.spec
     (λ c κs. search needs)
     (λ c. search needs)
-    (λ c phase held. unwritten (c .before .write .ensures) phase held (c .match .keys2))
+    (λ c. unwritten (c .before .write-host .ensures) (c .match .keys2))
     (λ c κs. search needs)
     (λ c κs. search needs)
     (λ c. search needs)
-    (λ c phase held. let p = c .before .before .before in
+    (λ c. let p = c .before .before .before in
     let w = p .before .before .before in
-    written (w .before .before .write .ensures) phase held (w .enum-told .given .1) (p .before .cursor-cell .ensures) (p .put .ensures)))
+    written (w .before .before .write-host .ensures) (w .enum-told .given .1) (p .before .cursor-cell .ensures) (p .put .ensures)))

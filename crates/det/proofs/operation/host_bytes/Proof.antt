@@ -1,7 +1,7 @@
 -- `host_bytes` meets its contract: refused, or taken.
 use borrow.Author.Needs.{needs}
 use Rattle.rules.specs.Operation.{hostBytes}
-use Rattle.det.proofs.RefuseLaws.{not-taken}
+use Rattle.decide.proofs.WriteLaws.{not-taken}
 use Rattle.det.proofs.SettleLaws.{settled-refused, settled-done}
 use Rattle.det.proofs.TakeLaws.{accepts-start}
 use Rattle.det.proofs.operation.host_bytes.Statement.{statement}
@@ -20,7 +20,7 @@ host-bytes-spec =
     (λ c. search needs)
     (λ c. let b = c .before .before in
     settled-refused _ _ _ (b .refuse .ensures) (not-taken (b .refuse .result) (c .before .match .keys2)) (c .refused .ensures))
-    (λ c κs. let t = c .before .before .before in accepts-start _ _ _ _ (t .before .before .refuse .ensures) (t .enum-told .given .1))
+    (λ c κs. let t = c .before .before .before in accepts-start _ _ (t .before .before .refuse .ensures) (t .enum-told .given .1))
     (λ c. search needs)
     (λ c. search needs)
     (λ c. search needs)

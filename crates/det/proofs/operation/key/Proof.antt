@@ -2,7 +2,7 @@
 use mathlib.Core.Path.{sym, _∙_}
 use borrow.Author.Needs.{needs}
 use Rattle.rules.specs.Operation.{oneKey}
-use Rattle.det.proofs.RefuseLaws.{not-taken}
+use Rattle.decide.proofs.WriteLaws.{not-taken}
 use Rattle.det.proofs.SettleLaws.{settled-refused, settled-done}
 use Rattle.det.proofs.operation.key.Statement.{statement}
 use Rattle.det.proofs.operation.key.Tie as tie

@@ -1,7 +1,7 @@
 -- `open` meets its contract: refused, it changes nothing; else every cell is a space and every attribute byte 0.
 use native.Mathlib.Omega.{arith}
 use borrow.Author.Needs.{needs}
-use Rattle.det.proofs.RefuseLaws.{not-taken}
+use Rattle.decide.proofs.WriteLaws.{not-taken}
 use Rattle.det.proofs.SettleLaws.{open-refused, open-sizes, open-done}
 use Rattle.det.proofs.operation.open.Statement.{statement}
 use Rattle.det.proofs.operation.open.Tie as tie
@@ -17,10 +17,10 @@ open-spec =
     (λ c. search needs)
     (λ c. search needs)
     (λ c. let b = c .before .before .before in
-    open-refused _ _ _ _ (b .refuse-sizes .ensures) (not-taken (b .refuse-sizes .result) (c .before .before .match .keys2))
+    open-refused _ _ _ (b .refuse-sizes .ensures) (not-taken (b .refuse-sizes .result) (c .before .before .match .keys2))
     (c .before .fresh-session .ensures) (c .refused .ensures))
-    (λ c. let z = open-sizes _ _ _ _ (c .before .before .refuse-sizes .ensures) (c .enum-told .given .1) in omega arith)
-    (λ c. let z = open-sizes _ _ _ _ (c .before .before .refuse-sizes .ensures) (c .enum-told .given .1) in omega arith)
+    (λ c. let z = open-sizes _ _ _ (c .before .before .refuse-sizes .ensures) (c .enum-told .given .1) in omega arith)
+    (λ c. let z = open-sizes _ _ _ (c .before .before .refuse-sizes .ensures) (c .enum-told .given .1) in omega arith)
     (λ c κs. search needs)
     (λ c κs. search needs)
     (λ c κs. search needs)
@@ -29,5 +29,5 @@ open-spec =
     (λ c. let f = c .before .before in
     let s = f .before .before .before .before in
     let b = s .before .before .before in
-    open-done _ _ _ _ (b .before .before .before .refuse-sizes .ensures) (b .before .enum-told .given .1) (b .fresh-session2 .ensures) (f .format .ensures)
-    (s .erase .ensures)))
+    open-done _ _ _ (b .before .before .before .refuse-sizes .ensures) (b .before .enum-told .given .1) (b .fresh-session2 .ensures) (s .erase .ensures)
+    (f .format .ensures)))

@@ -1,7 +1,6 @@
 -- `refuse_key` meets its contract: the tests of every call, then those of the key.
 use borrow.Author.Needs.{needs}
-use Rattle.det.proofs.RefuseLaws.{not-taken}
-use Rattle.det.proofs.TakeLaws.{accepts-start, accepts-fits}
+use Rattle.decide.proofs.WriteLaws.{not-taken}
 use Rattle.det.proofs.KeyLaws.{refused-first, refused-last}
 use Rattle.det.proofs.operation.refuse_key.Statement.{statement}
 use Rattle.det.proofs.operation.refuse_key.Tie as tie
@@ -12,11 +11,9 @@ refuse-key-spec =
     (tie.spec
     (λ c κs. search needs)
     (λ c. search needs)
-    (λ c. let b = c .before in refused-first _ _ _ _ _ (b .refuse .ensures) (not-taken (b .refuse .result) (c .match .keys2)))
+    (λ c. let b = c .before in refused-first _ _ _ (b .refuse .ensures) (not-taken (b .refuse .result) (c .match .keys2)))
     (λ c κs. search needs)
     (λ c κs. search needs)
-    (λ c κs. let t = c .before .before in
-    rw (c .before .frame-of .ensures) (accepts-fits (accepts-start _ _ _ _ (t .before .before .refuse .ensures) (t .enum-told .given .1))))
-    (λ c. let t = c .before .before .before in
-    refused-last _ _ _ _ _ (t .before .before .refuse .ensures) (t .enum-told .given .1) (c .before .before .frame-of .ensures) (c .before .key-of .ensures)
+    (λ c. let t = c .before .before in
+    refused-last _ _ _ (t .before .before .refuse .ensures) (t .enum-told .given .1) (c .before .key-of .ensures)
     (c .refuse-pressed .ensures)))

@@ -2,7 +2,8 @@
 use mathlib.Core.Path.{refl, sym, _∙_}
 use borrow.Author.Needs.{needs}
 use Rattle.rules.specs.Refusal.{sizeTests}
-use Rattle.det.proofs.RefuseLaws.{passed-on, failed-first, not-taken}
+use Rattle.det.proofs.RefuseLaws.{passed-on, failed-first}
+use Rattle.decide.proofs.WriteLaws.{not-taken}
 use Rattle.det.proofs.refuse.refuse.Statement.{statement}
 use Rattle.det.proofs.refuse.refuse.Tie as tie
 

@@ -1,7 +1,7 @@
 -- `take_byte` meets its contract: the byte is read, and what it told is done.
 use native.Mathlib.Omega.{arith}
 use borrow.Author.Needs.{needs}
-use Rattle.det.proofs.TakeLaws.{byte-answerable, byte-applies}
+use Rattle.det.proofs.TakeLaws.{byte-answerable, byte-state, byte-replies}
 use Rattle.det.proofs.HostLaws.{taking-byte}
 use Rattle.det.proofs.take.take_byte.Statement.{statement}
 use Rattle.det.proofs.take.take_byte.Tie as tie
@@ -12,16 +12,17 @@ take-byte-spec =
     (tie.spec
     (λ c. search needs)
     (λ c κs. search needs)
-    (λ c κs. let r = c .before .before .before in byte-answerable (r .before .before .before .before .before .before .pre .0) _ (r .read .ensures))
+    (λ c κs. let r = c .before .before .before in byte-answerable (r .before .before .before .before .before .before .before .pre .0) _ (r .read .ensures))
     (λ c κs. search needs)
-    (λ c. let start = c .before .before .before .before .before .before .before .before .before .before .before .before .before .before .before .before .before .before in omega (arith, start .pre .1, start .good .1 .1 .1 .0 .0))
+    (λ c. let start = c .before .before .before .before .before .before .before .before .before .before .before .before .before .before .before .before .before .before .before in omega (arith, start .pre .1, start .good .1 .1 .0 .0))
     (λ c. search needs)
     (λ c. search needs)
     (λ c. search needs)
     (λ c. let h = c .before .before .before .before .before .before .before .before in
     let r = h .before .before .before .before in
-    let p = r .before .before .before .before .before .before .pre in
+    let p = r .before .before .before .before .before .before .before .pre in
     record {
-      taking = taking-byte (p .0) (p .1) (byte-applies (p .0) _ (r .read .ensures) (c .held-after .ensures) (h .happen .ensures));
+      taking = taking-byte (p .0) (p .1) (byte-state (p .0) _ (r .read .ensures) (h .happen .ensures) (c .held-after .ensures))
+          (byte-replies (p .0) _ (r .read .ensures) (h .happen .ensures));
       further = omega arith;
     }))

@@ -2,7 +2,7 @@
 use mathlib.Core.Path.{refl}
 use native.Mathlib.Omega.{arith}
 use borrow.Author.Needs.{needs}
-use Rattle.det.proofs.QuietLaws.{run-held-iac}
+use Rattle.det.proofs.QuietLaws.{run-held, run-held-iac}
 use Rattle.det.proofs.take.take_payload.Statement.{statement}
 use Rattle.det.proofs.take.take_payload.Tie as tie
 
@@ -12,8 +12,19 @@ take-payload-spec =
     (tie.spec
     (λ c κs. search needs)
     (λ c. search needs)
-    (λ c attrs chars. let r = c .before .before .before .before .hold-run .ensures in
-    let run = r .0 _ _ attrs chars in
-    record { run = run-held-iac _ run (c .before .if1 .taken) (r .1); further = omega (arith, run .onward); same = refl })
-    (λ c attrs chars. let r = c .before .before .before .hold-run .ensures in
-    record { run = r .0 _ _ attrs chars; further = omega (arith, c .if1 .left, c .before .before .before .before .before .pre); same = refl }))
+    (λ c b. let t = c .before .before .before .before in
+    let r = t .hold-run .ensures in
+    let a = t .before .before .args in
+    let run = run-held _ _ (r .0) (omega (arith, t .before .before .pre)) (a .frame) (a .option) b (r .1) in
+    record {
+      run = run-held-iac _ _ (r .0) (omega (arith, t .before .before .pre)) _ _ b (r .1) (c .before .if1 .taken);
+      further = omega (arith, run .onward);
+      same = refl;
+    })
+    (λ c b. let t = c .before .before .before in
+    let r = t .hold-run .ensures in
+    record {
+      run = run-held _ _ (r .0) (omega (arith, t .before .before .pre)) _ _ b (r .1);
+      further = omega (arith, c .if1 .left, t .before .before .pre);
+      same = refl;
+    }))

@@ -2,7 +2,7 @@
 use native.Mathlib.Omega.{arith}
 use mathlib.Core.Path.{refl}
 use borrow.Author.Needs.{needs}
-use Rattle.det.proofs.QuietLaws.{run-data-iac}
+use Rattle.det.proofs.QuietLaws.{run-data, run-data-iac}
 use Rattle.det.proofs.take.take_text.Statement.{statement}
 use Rattle.det.proofs.take.take_text.Tie as tie
 
@@ -14,9 +14,20 @@ take-text-spec =
     (λ c. search needs)
     (λ c. search needs)
     (λ c. let t = c .before .before .before .before .before .before in
+    let start = t .before .before .before .before .before in
     let r = t .take-run .ensures in
-    let run = r .0 (t .before .before .before .before .before .args .held) in
-    record { run = run-data-iac run (c .before .if1 .taken) (r .1); further = omega (arith, run .onward); same = refl })
+    let run = run-data _ _ (r .0) (omega (arith, start .pre)) (start .args .held) (r .1) in
+    record {
+      run = run-data-iac _ _ (r .0) (omega (arith, start .pre)) (start .args .held) (r .1) (c .before .if1 .taken);
+      further = omega (arith, run .onward);
+      same = refl;
+    })
     (λ c. search needs)
     (λ c. let t = c .before .before .before .before .before in
-    record { run = t .take-run .ensures .0 _; further = omega (arith, c .if1 .left, t .before .before .before .before .before .pre); same = refl }))
+    let start = t .before .before .before .before .before in
+    let r = t .take-run .ensures in
+    record {
+      run = run-data _ _ (r .0) (omega (arith, start .pre)) (start .args .held) (r .1);
+      further = omega (arith, c .if1 .left, start .pre);
+      same = refl;
+    }))

@@ -13,7 +13,7 @@ det-key-spec =
     (λ c κs. search needs)
     (λ c κs. search needs)
     (λ c. search needs)
-    (λ c. let i = c .before .before .before in key-none _ _ _ _ (i .before .is-session .ensures) (i .if1 .taken) (c .no-session .ensures) _)
+    (λ c. let i = c .before .before .before in key-none _ _ _ (i .before .is-session .ensures) (i .if1 .taken) (c .no-session .ensures) _)
     (λ c κs. search needs)
     (λ c κs. search needs)
     (λ c κs. search needs)
@@ -27,4 +27,4 @@ det-key-spec =
     let k = g .before .before .before .before .before .before .before .before in
     let b = k .before .before .before in
     let i = b .before .before .before in
-    key-done _ _ _ _ (i .before .is-session .ensures) (i .if1 .left) (b .before .decode .ensures) (g .give .ensures) _ (b .key-byte .ensures) (k .key .ensures)))
+    key-done _ _ _ (i .before .is-session .ensures) (i .if1 .left) (b .before .decode .ensures) (g .give .ensures) _ (b .key-byte .ensures) (k .key .ensures)))

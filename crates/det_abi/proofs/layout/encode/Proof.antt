@@ -8,7 +8,7 @@ use Rattle.det_abi.proofs.layout.encode.Statement.{statement}
 use Rattle.det_abi.proofs.layout.encode.Tie as tie
 
 -- an array has its length
-long : (s : tie.Start) → length (s .args .session .held .bytes) ≡ 6
+long : (s : tie.Start) → length (s .args .session .reader .held .bytes) ≡ 6
 long s = search needs
 
 pub encode-spec : {M : Type 1} → statement M
@@ -32,6 +32,6 @@ encode-spec =
     (λ c. let t = c .before .before in
     let o = t .before .before .before in
     let b = o .before .before .before in
-    let s = b .before .before .before in
+    let s = b .before .before .before .before .before in
     copied-over (s .pre) (t .copy-text .ensures)
-    ∙ rw (b .bit .ensures, o .before .before .bit2 .ensures, o .before .phase-number .ensures, o .phase-option .ensures, six (s .args .session .held .bytes) (long s))))
+    ∙ rw (b .bit .ensures, o .before .before .bit2 .ensures, o .before .phase-number .ensures, o .phase-option .ensures, six (s .args .session .reader .held .bytes) (long s))))

@@ -1,0 +1,64 @@
+// The frame with one thing changed, the cursor's cell, and whether the cursor and the attribute bytes are the screen's.
+ghost use mathlib.Core.Path.{_≡_};
+ghost use Rattle.rules.specs.Session.{placed, switched};
+ghost use Rattle.rules.specs.Telnet.{cursorGuarded};
+ghost use Rattle.screen.specs.Cells.{cellOf};
+ghost use Rattle.command.specs.Frame.{seen, fitting};
+use rules::Frame;
+use screen::attribute::is_guarded;
+use screen::cell::Place;
+use screen::cell::cell_of;
+use screen::cell::on_screen;
+
+// The frame with the cursor at this place.
+pub fn moved(frame: Frame, cursor: Place) -> Frame
+    ensures { λ r. ⌜ r ≡ placed frame cursor ⌝ }
+{
+    Frame {
+        width: frame.width,
+        height: frame.height,
+        cursor: cursor,
+        det: frame.det,
+        suppressed: frame.suppressed,
+    }
+}
+
+// The frame with these modes.
+pub fn switched(frame: Frame, det: bool, suppressed: bool) -> Frame
+    ensures { λ r. ⌜ r ≡ switched frame det suppressed ⌝ }
+{
+    let cursor = frame.cursor;
+    Frame {
+        width: frame.width,
+        height: frame.height,
+        cursor: cursor,
+        det: det,
+        suppressed: suppressed,
+    }
+}
+
+pub fn cursor_cell(frame: Frame) -> usize
+    ensures { λ r. ⌜ r ≡ cellOf (frame .width) (frame .cursor) ⌝ }
+{
+    let cursor = frame.cursor;
+    cell_of(frame.width, cursor)
+}
+
+pub fn cursor_guarded(frame: Frame, attrs: &[u8]) -> bool
+    ensures { λ r. ⌜ r ≡ cursorGuarded (seen frame (attrs .entry)) ⌝ }
+{
+    let cell = cursor_cell(frame);
+    is_guarded(attrs, cell, frame.suppressed)
+}
+
+// Is the cursor on the screen, with an attribute byte for each cell?
+pub fn fits(frame: Frame, attrs: &[u8]) -> bool
+    ensures { λ r. ⌜ r ≡ fitting (seen frame (attrs .entry)) ⌝ }
+{
+    let cursor = frame.cursor;
+    let on = on_screen(frame.width, frame.height, cursor);
+    if on {
+        return attrs.len() == frame.height as usize * frame.width as usize;
+    }
+    false
+}

@@ -1,0 +1,14 @@
+-- `erase_screen` meets its contract.
+use borrow.Author.Needs.{needs}
+use Rattle.decide.proofs.ObeyLaws.{all-zeros}
+use Rattle.rules.specs.Subcommand.{erasure}
+use Rattle.decide.proofs.edit.erase_screen.Statement.{statement}
+use Rattle.decide.proofs.edit.erase_screen.Tie as tie
+
+pub erase-screen-spec : {M : Type 1} → statement M
+unfolding erasure
+erase-screen-spec =
+    tie.close
+    (tie.spec
+    (λ c κs. search needs)
+    (λ c attrs long. rw (c .origin .ensures, ← long) (record { meaning = rw all-zeros; sendable = tt })))

@@ -1,0 +1,20 @@
+-- `write` meets its contract: by whether the character is written.
+use mathlib.Core.Path.{_∙_}
+use borrow.Author.Needs.{needs}
+use Rattle.decide.specs.Writing.{afterFate}
+use Rattle.decide.proofs.WriteLaws.{not-moved}
+use Rattle.decide.proofs.text.write.Statement.{statement}
+use Rattle.decide.proofs.text.write.Tie as tie
+
+pub write-spec : {M : Type 1} → statement M
+unfolding afterFate
+write-spec =
+    tie.close
+    (tie.spec
+    (λ c κs. search needs)
+    (λ c. search needs)
+    (λ c. record { fate = c .before .judge-character .ensures; frame = not-moved (c .before .judge-character .result) (c .match .keys2) (c .before .before .before .args .frame) _ })
+    (λ c κs. search needs)
+    (λ c κs. search needs)
+    (λ c. let w = c .before .before in
+    record { fate = w .before .before .judge-character .ensures; frame = c .moved .ensures ∙ rw (w .enum-told .given .1, c .before .place-after .ensures) }))

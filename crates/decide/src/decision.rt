@@ -1,0 +1,106 @@
+// What a host byte or a key is decided to do. Characters are named by their cells.
+ghost use mathlib.Core.Path.{_≡_};
+ghost use Rattle.decide.specs.Decision.{decision};
+use rules::Frame;
+use screen::cell::Place;
+use screen::edit::Shift;
+use telnet::Verb;
+
+// What becomes of the characters.
+pub enum Change {
+    Nothing,
+    Put {
+        cell: usize,
+        byte: u8,
+    },
+    // spaces in the cells of the range that are not guarded
+    Erase {
+        suppressed: bool,
+        from: usize,
+        end: usize,
+    },
+    // by one cell
+    Shift {
+        shift: Shift,
+        from: usize,
+        end: usize,
+    },
+    // a host character so many times, from the cursor on
+    Repeat {
+        count: u8,
+        byte: u8,
+    },
+}
+
+// What is sent.
+pub enum Say {
+    Silent,
+    Negotiation {
+        verb: Verb,
+        option: u8,
+    },
+    // IAC SB 20 and these bytes IAC SE
+    Two {
+        code: u8,
+        a: u8,
+    },
+    Three {
+        code: u8,
+        a: u8,
+        b: u8,
+    },
+    // a preface alone, with the text of a range, with every unprotected field
+    Preface(Place),
+    Text {
+        place: Place,
+        from: usize,
+        end: usize,
+    },
+    Fields(Place),
+}
+
+// What becomes of the attribute bytes.
+pub enum Format {
+    Keep,
+    Fill { from: usize, end: usize, attr: u8 },
+}
+
+pub struct Decision {
+    pub frame: Frame,
+    pub change: Change,
+    pub say: Say,
+    pub format: Format,
+}
+
+pub(crate) fn quiet(frame: Frame) -> Decision
+    ensures { λ r. ⌜ r ≡ decision frame Change.Nothing Say.Silent Format.Keep ⌝ }
+{
+    Decision {
+        frame: frame,
+        change: Change::Nothing,
+        say: Say::Silent,
+        format: Format::Keep,
+    }
+}
+
+pub(crate) fn saying(frame: Frame, say: Say) -> Decision
+    ensures { λ r. ⌜ r ≡ decision frame Change.Nothing say Format.Keep ⌝ }
+{
+    Decision {
+        frame: frame,
+        change: Change::Nothing,
+        say: say,
+        format: Format::Keep,
+    }
+}
+
+pub(crate) fn changing(frame: Frame, change: Change) -> Decision
+    ensures { λ r. ⌜ r ≡ decision frame change Say.Silent Format.Keep ⌝ }
+{
+    Decision {
+        frame: frame,
+        change: change,
+        say: Say::Silent,
+        format: Format::Keep,
+    }
+}

@@ -1,7 +1,7 @@
 // The frame with one thing changed, the cursor's cell, and whether the cursor and the attribute bytes are the screen's.
 ghost use mathlib.Core.Path.{_≡_};
 ghost use Rattle.rules.specs.Session.{placed, switched};
-ghost use Rattle.rules.specs.Telnet.{cursorGuarded};
+ghost use Rattle.rules.specs.Cursor.{cursorGuarded};
 ghost use Rattle.screen.specs.Cells.{cellOf};
 ghost use Rattle.command.specs.Frame.{seen, fitting};
 use rules::Frame;

@@ -3,8 +3,7 @@ ghost use mathlib.Core.Path.{_≡_};
 ghost use Prim.Native.Nat.{_<_};
 ghost use Rattle.rules.specs.Session.{noneHeld};
 ghost use Rattle.rules.specs.Telnet.{holding, heldAfter};
-ghost use Rattle.rules.specs.Command.{codeIn, parameter, formatCount};
-ghost use Rattle.screen.specs.Cells.{place};
+ghost use Rattle.rules.specs.Command.{codeIn, parameter, placeIn, formatCount};
 use rules::Held;
 use screen::cell::Column;
 use screen::cell::Line;
@@ -91,7 +90,7 @@ pub fn second_parameter(held: Held) -> u8
 // MOVE CURSOR's two bytes, as a character position and a line position.
 // (Document 01, code places: tuple structs for x and y, so that the parameters cannot change places.)
 pub fn place_parameters(held: Held) -> Place
-    ensures { λ r. ⌜ r ≡ place (parameter held 0) (parameter held 1) ⌝ }
+    ensures { λ r. ⌜ r ≡ placeIn held ⌝ }
 {
     Place {
         x: Column(parameter(held, 0)),

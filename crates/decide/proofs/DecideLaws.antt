@@ -13,12 +13,13 @@ use Rattle.screen.proofs.WordLaws.{first-below, last-below, and-left, and-right
 use Rattle.rules.specs.declared.Frame.{Frame}
 use Rattle.rules.specs.Session.{View, cells}
 use Rattle.rules.specs.Effect.{Effect}
-use Rattle.decide.specs.declared.decision.Change.the-variants.{Nothing}
+use Rattle.decide.specs.declared.decision.Edit.the-variants.{Nothing}
 use Rattle.decide.specs.declared.decision.Say.the-variants.{Silent}
 use Rattle.decide.specs.declared.decision.Format.the-variants.{Keep}
 use Rattle.decide.specs.declared.decision.Decision.{Decision}
 use Rattle.command.specs.Frame.{OnScreen, Fits, fitting}
-use Rattle.decide.specs.Decision.{decision, meant, shown, Sendable, Decides, whereFits}
+use Rattle.decide.specs.Decision.{meant, shown, Sendable, Decides, whereFits}
+use Rattle.decide.specs.inner.Decision.{decision}
 
 -- a decision that is known: its text lies on the screen, and it means what the rule says
 pub decides : {v : View} {d e : Decision} {rule : View → Effect} → d ≡ e → Sendable (v .attrs) (e .say) → meant (v .attrs) e ≡ shown (rule v)

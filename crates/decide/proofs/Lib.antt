@@ -1,3 +1,4 @@
 pub mod DecideLaws
 pub mod WriteLaws
 pub mod ObeyLaws
+pub mod KeyLaws

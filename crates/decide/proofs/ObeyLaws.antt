@@ -2,48 +2,46 @@
 use mathlib.Core.Path.{_≡_, refl, sym, ap, _∙_}
 use mathlib.Core.Bool.{Bool, true, false}
 use mathlib.Core.List.{List, []}
-use Prim.Native.Nat.{ℕ, zero, suc, _≤_, _<_}
+use Prim.Native.Nat.{ℕ, zero, suc, _+_, _≤_, _<_}
 use native.Mathlib.Omega.{arith}
 use lib.ListN.{length, replicate, length-replicate, getD-replicate}
 use Rattle.screen.specs.declared.edit.Shift.{Shift}
-use Rattle.screen.specs.Cells.{cellOf, placeOf, lineStart, lineEnd}
+use Rattle.screen.specs.Cells.{lineEnd}
 use Rattle.screen.specs.Fields.{fieldEnd}
 use Rattle.screen.specs.Edits.{formatted, formattedCell}
 use Rattle.screen.proofs.WordLaws.{either, tabulated}
 use Rattle.screen.proofs.ListLaws.{in-range}
-use Rattle.screen.proofs.CellLaws.{line-within, place-of-cell}
+use Rattle.screen.proofs.CellLaws.{line-within}
 use Rattle.screen.proofs.FieldLaws.{end-gt}
 use Rattle.rules.specs.declared.Command.{Command}
+use Rattle.rules.specs.declared.Code.{Code}
+use Rattle.rules.specs.declared.Code.the-variants.{Known, Unknown}
 use Rattle.rules.specs.declared.Fault.{Fault}
+use Rattle.rules.specs.declared.Fault.the-variants.{UnknownCode}
 use Rattle.rules.specs.declared.Frame.{Frame}
 use Rattle.rules.specs.declared.Held.{Held}
 use Rattle.rules.specs.Session.{View, cells, cursorCell, withAttrs}
+use Rattle.rules.specs.Command.{Row, Listed, listed, unlisted, meaning, codeIn, faultOf}
 use Rattle.rules.specs.Effect.{Effect}
-use Rattle.rules.specs.Telnet.{cursorGuarded, hostCharacter, hostCharacters}
-use Rattle.rules.specs.Command.{faultOf}
-use Rattle.rules.specs.Subcommand.{cursorSpanEnd, shifting, judged}
-use Rattle.decide.specs.declared.decision.Change.the-variants.{Nothing}
-use Rattle.decide.specs.declared.decision.Change.the-variants as change
+use Rattle.rules.specs.Cursor.{cursorGuarded, homeCell, backTabCell, firstFieldCell, nextFieldCell, previousOpenCell}
+use Rattle.rules.specs.Telnet.{hostCharacter, hostCharacters}
+use Rattle.rules.specs.Subcommand.{cursorSpanEnd, shifting, erring, judged, looked}
+use Rattle.command.specs.Frame.{OnScreen, Fits}
+use Rattle.decide.specs.declared.decision.Edit.the-variants.{Nothing}
+use Rattle.decide.specs.declared.decision.Edit.the-variants as edit
 use Rattle.decide.specs.declared.decision.Say.the-variants.{Silent}
 use Rattle.decide.specs.declared.decision.Format.the-variants.{Keep}
 use Rattle.decide.specs.declared.decision.Decision.{Decision}
-use Rattle.command.specs.Frame.{OnScreen, Fits}
-use Rattle.decide.specs.Decision.{Decides, decision, shown, prefaceOf}
-use Rattle.decide.proofs.DecideLaws.{recast, cursor-lt}
+use Rattle.decide.specs.Decision.{Decides, shown}
+use Rattle.decide.specs.inner.Decision.{decision, Judges}
+use Rattle.decide.proofs.DecideLaws.{recast, cursor-lt, first-lt, last-lt}
 
 -- ---- what lies on the screen
 
 module _ {f : Frame} (on : OnScreen f) where
-  -- the first cell, and the start of the cursor's line
+  -- the first cell
   pub origin-lt : 0 < cells f
   origin-lt = omega (arith, cursor-lt on)
-
-  pub line-lt : lineStart (f .width) (f .cursor .y) < cells f
-  line-lt = omega (arith, cursor-lt on)
-
-  -- the cursor stands at the place of its cell
-  pub preface-cursor : prefaceOf (f .cursor) ≡ prefaceOf (placeOf (f .width) (cellOf (f .width) (f .cursor)))
-  preface-cursor = ap prefaceOf (sym (place-of-cell (f .width) (f .cursor .x .0) (f .cursor .y .0) (on .x)))
 
 module _ {v : View} (fits : Fits v) where
   -- the cursor's cell, and the end of its line
@@ -56,6 +54,31 @@ module _ {v : View} (fits : Fits v) where
   -- the cursor's field ends after it
   pub field-after : cursorCell v < fieldEnd (v .attrs) (cursorCell v)
   field-after = end-gt (v .attrs) (cursorCell v) cursor-in
+
+  -- the cells where scans send the cursor
+  pub home-lt : homeCell v < cells (v .frame)
+  unfolding homeCell
+  home-lt =
+      either (λ c. c < cells (v .frame)) (v .frame .suppressed) (λ e. origin-lt (fits .on))
+      (λ e. first-lt fits _ 0 0 (origin-lt (fits .on)) (omega arith))
+
+  pub back-tab-lt : backTabCell v < cells (v .frame)
+  unfolding backTabCell
+  back-tab-lt =
+      either (λ c. c < cells (v .frame)) (v .frame .suppressed) (λ e. origin-lt (fits .on))
+      (λ e. last-lt fits _ _ 0 (origin-lt (fits .on)))
+
+  pub first-field-lt : (none : ℕ) → none < cells (v .frame) → firstFieldCell v none < cells (v .frame)
+  unfolding firstFieldCell
+  first-field-lt none h = first-lt fits _ 0 none h (omega arith)
+
+  pub next-field-lt : nextFieldCell v < cells (v .frame)
+  unfolding nextFieldCell
+  next-field-lt = first-lt fits _ _ _ (first-field-lt _ (cursor-lt (fits .on))) (omega (arith, cursor-in))
+
+  pub previous-open-lt : previousOpenCell v < cells (v .frame)
+  unfolding previousOpenCell
+  previous-open-lt = last-lt fits _ _ _ (cursor-lt (fits .on))
 
 -- ---- decisions
 
@@ -72,7 +95,7 @@ module _ {v : View} {guarded : Bool} (e : guarded ≡ cursorGuarded v) (s : Shif
   shift-not t = record { meaning = rw (sym e ∙ t); sendable = tt }
 
   pub shift-span : guarded ≡ false
-      → Decides v (decision (v .frame) (change.Shift s (cursorCell v) (cursorSpanEnd v)) Silent Keep) (λ v. shifting v s)
+      → Decides v (decision (v .frame) (edit.Shift s (cursorCell v) (cursorSpanEnd v)) Silent Keep) (λ v. shifting v s)
   shift-span t = record { meaning = rw (sym e ∙ t); sendable = tt }
 
 -- 37: a repeated character touches no attribute byte, and says nothing
@@ -87,7 +110,7 @@ unfolding hostCharacters
 repeat-silent zero v c = refl
 repeat-silent (suc n) v c = refl
 
-pub repeated : {v : View} {n c : ℕ} → Decides v (decision (v .frame) (change.Repeat n c) Silent Keep) (λ v. hostCharacters n v c)
+pub repeated : {v : View} {n c : ℕ} → Decides v (decision (v .frame) (edit.Repeat n c) Silent Keep) (λ v. hostCharacters n v c)
 repeated {v} {n} {c} = record { meaning = as-shown (hostCharacters n v c) (repeat-attrs n v c) (repeat-silent n v c); sendable = tt }
   where
     as-shown : (e : Effect) → e .view .attrs ≡ v .attrs → e .reply ≡ []
@@ -97,6 +120,31 @@ repeated {v} {n} {c} = record { meaning = as-shown (hostCharacters n v c) (repea
 -- ---- ERRORs
 
 -- a decision by the fault that the view shows
-pub judged-by : {v : View} {d : Decision} (c : Command) (held : Held) {fault : Fault} → fault ≡ faultOf v c held
-    → Decides v d (λ w. judged w c held fault) → Decides v d (λ w. judged w c held (faultOf w c held))
-judged-by {v} c held e by = recast by (ap (λ (x : Fault). shown (judged v c held x)) e)
+pub judged-by : {v : View} {d : Decision} {c : Command} {n : ℕ} (held : Held) {fault : Fault} → fault ≡ faultOf v c n held
+    → ((r : Row) → r .command ≡ c → Decides v d (λ w. judged w r held fault)) → Judges v d c n held
+judged-by {v} held e by r m p =
+    recast (by r m) (ap (λ (x : Fault). shown (judged v r held x)) (e ∙ rw (m, p)))
+
+-- a code is not both known and unknown
+unknown : {c : Command} {n : ℕ} → Known c n ≡ Unknown → ⊥
+unknown {c} {n} e = let same : _≡_ {A = ℕ} 0 1 = ap isKnown e in omega arith
+  where
+    isKnown : Code → ℕ
+    isKnown (Known c n) = 0
+    isKnown Unknown = 1
+
+-- a decision by what the list says of the code
+pub looked-known : {v : View} {d : Decision} (held : Held) {c : Command} {n : ℕ} (l : Listed) → Known c n ≡ meaning l
+    → Judges v d c n held → Decides v d (λ w. looked w l held)
+unfolding meaning looked
+looked-known held {c} {n} (listed r) e by =
+    let same : r .command ≡ c = cc in
+    let count : r .parameters ≡ n = cc in
+    by r same count
+looked-known held {c} {n} unlisted e by = absurd (unknown e)
+
+pub looked-unknown : {v : View} {d : Decision} (held : Held) (l : Listed) → Unknown ≡ meaning l
+    → Decides v d (λ w. erring w (codeIn held) UnknownCode) → Decides v d (λ w. looked w l held)
+unfolding meaning looked
+looked-unknown held (listed r) e by = absurd (unknown (sym e))
+looked-unknown held unlisted e by = by

@@ -11,54 +11,59 @@ use denote.Enum.Declared.{tagOf}
 use Rattle.screen.specs.Words.{if_then_else_}
 use Rattle.screen.specs.declared.cell.Place.{Place}
 use Rattle.screen.specs.Scans.{nextOpenPlace}
+use Rattle.screen.specs.Classes.{takes}
 use Rattle.screen.proofs.WordLaws.{true-or-false}
 use Rattle.rules.specs.declared.Refusal.{Refusal}
 use Rattle.rules.specs.declared.Refusal.the-variants.{Taken, Size, BufferLength, BadCharacter, BadSession, ReplyRoom, Guarded, WrongClass, DetOff, NoMeaning}
 use Rattle.rules.proofs.Refusal as refusal
+use Rattle.rules.specs.declared.Destination.the-variants.{NextOpen}
 use Rattle.rules.specs.declared.Key.{Key}
 use Rattle.rules.specs.declared.Key.the-variants.{Typed}
 use Rattle.rules.specs.Session.{View, printable, placed, cursorCell, withCursor}
 use Rattle.rules.specs.Effect.{Effect, put, changing, quiet}
-use Rattle.rules.specs.Telnet.{cursorGuarded, hostCharacter, hostData}
+use Rattle.rules.specs.Cursor.{cursorGuarded, destination}
+use Rattle.rules.specs.Telnet.{hostCharacter, hostData}
 use Rattle.rules.specs.Refusal.{isTaken, verdict}
-use Rattle.rules.specs.Key.{pressed, keyTests, hasMeaning, detAllows, guardAllows, classAllows}
+use Rattle.rules.specs.Key.{pressed, keyTests, needsOf, classAllows}
 use Rattle.rules.specs.declared.Frame.{Frame}
 use Rattle.decide.specs.declared.text.Writer.the-variants.{Host, Operator}
 use Rattle.decide.specs.declared.text.Fate.{Fate}
 use Rattle.decide.specs.declared.text.Fate.the-variants.{Written, Dropped, RefusedByGuard, RefusedByClass}
 use Rattle.decide.proofs.text.Fate.{the-type}
 use Rattle.decide.specs.declared.text.Writing.{Writing}
-use Rattle.decide.specs.declared.decision.Change.the-variants.{Nothing}
+use Rattle.decide.specs.declared.decision.Edit.the-variants.{Nothing}
 use Rattle.decide.specs.declared.decision.Say.the-variants.{Silent}
 use Rattle.decide.specs.declared.decision.Format.the-variants.{Keep}
 use Rattle.decide.specs.declared.decision.Decision.{Decision}
-use Rattle.decide.specs.Decision.{decision, Decides}
+use Rattle.decide.specs.Decision.{Decides}
+use Rattle.decide.specs.inner.Decision.{decision}
+use Rattle.decide.specs.inner.Writing.{ifWritten, fateRefusal}
 use Rattle.decide.proofs.DecideLaws.{decides, recast}
 use Rattle.command.specs.Frame.{Fits}
-use Rattle.decide.specs.Writing.{fateOf, placeAfter, ifWritten, refusalOf, afterFate, effectOf, pressedIfTaken, Writes}
+use Rattle.decide.specs.Writing.{fateOf, placeAfter, afterFate, controlOf, pressedIfTaken, Writes}
 
 -- a host character goes by its fate
 pub by-fate : (v : View) (c : ℕ)
     → hostCharacter v c ≡ ifWritten (fateOf Host v c) (changing (withCursor v (placeAfter Host v)) (put (cursorCell v) c ∷ [])) (quiet v)
-unfolding hostCharacter fateOf placeAfter ifWritten
+unfolding hostCharacter fateOf ifWritten
 by-fate v c = true-or-false (cursorGuarded v) (λ g. rw g) (λ g. rw g)
 
 -- and so does the refusal of a typed character
-pub refused-by-fate : (v : View) (c : ℕ) → refusalOf (fateOf Operator v c) ≡ verdict (keyTests v (Typed c))
-unfolding fateOf verdict keyTests hasMeaning detAllows guardAllows
+pub refused-by-fate : (v : View) (c : ℕ) → fateRefusal (fateOf Operator v c) ≡ verdict (keyTests v (Typed c))
+unfolding fateOf verdict keyTests needsOf
 refused-by-fate v c =
-    true-or-false (cursorGuarded v) (λ g. rw g) (λ g. true-or-false (classAllows v (Typed c)) (λ a. rw (g, a)) (λ a. rw (g, a)))
+    true-or-false (cursorGuarded v) (λ g. rw g) (λ g. true-or-false (classAllows v (λ attr. takes attr c)) (λ a. rw (g, a)) (λ a. rw (g, a)))
 
 -- a typed character that is not refused is written
 only-written : (guarded allowed : Bool)
-    → let fate = if guarded then RefusedByGuard else if allowed then Written else RefusedByClass in refusalOf fate ≡ Taken → fate ≡ Written
+    → let fate = if guarded then RefusedByGuard else if allowed then Written else RefusedByClass in fateRefusal fate ≡ Taken → fate ≡ Written
 only-written true allowed e = cc
 only-written false true e = refl
 only-written false false e = cc
 
 pub typed-is-written : (v : View) (c : ℕ) → verdict (keyTests v (Typed c)) ≡ Taken → fateOf Operator v c ≡ Written
 unfolding fateOf
-typed-is-written v c e = only-written (cursorGuarded v) (classAllows v (Typed c)) (refused-by-fate v c ∙ e)
+typed-is-written v c e = only-written (cursorGuarded v) (classAllows v (λ attr. takes attr c)) (refused-by-fate v c ∙ e)
 
 -- what the other arm of a match on Written knows
 pub not-written : (f : Fate) → OneOf (1 ∷ 2 ∷ 3 ∷ []) (tagOf the-type f)
@@ -78,8 +83,8 @@ not-moved RefusedByClass h f next = refl
 
 -- where the code's scan for the next open place goes, with the cursor on the screen
 pub next-open-is : {v : View} → Fits v →
-    let f = v .frame in nextOpenPlace (f .suppressed) (v .attrs) (f .width) (f .height) (f .cursor) ≡ placeAfter Operator v
-unfolding nextOpenPlace placeAfter
+    let f = v .frame in nextOpenPlace (f .suppressed) (v .attrs) (f .width) (f .height) (f .cursor) ≡ destination v NextOpen
+unfolding nextOpenPlace destination
 next-open-is h = rw (lt-ltb _ _ (h .on .x), lt-ltb _ _ (h .on .y), eq-eqb _ _ (h .long))
 
 -- a typed character that is not refused is written where the rule for its key says
@@ -89,9 +94,9 @@ unfolding afterFate
 typed {v} {c} one e = one .frame ∙ rw (one .fate, typed-is-written v c e)
 
 -- host data that is no character
-pub effect-is : (v : View) (b : ℕ) → printable b ≡ false → hostData v b ≡ effectOf v b
-unfolding effectOf
-effect-is v b e = rw e
+pub control-is : (v : View) (b : ℕ) → printable b ≡ false → hostData v b ≡ controlOf v b
+unfolding controlOf
+control-is v b e = rw e
 
 -- ---- a key that is refused, or not
 

@@ -3,49 +3,28 @@ use mathlib.Core.Path.{_≡_}
 use mathlib.Core.List.{List, [], _∷_}
 use Prim.Native.Nat.{ℕ, _≤_}
 use lib.ListN.{length}
+use Rattle.screen.specs.Words.{if_then_else_}
 use Rattle.screen.specs.Edits.{formatted}
-use Rattle.screen.specs.declared.cell.Place.{Place}
-use Rattle.rules.specs.declared.Frame.{Frame}
 use Rattle.rules.specs.Session.{View, view, withAttrs}
 use Rattle.rules.specs.Effect.{Effect, Part, put, erase, shift, text, message, changing, quiet}
-use Rattle.rules.specs.Effect as effect
 use Rattle.rules.specs.Telnet.{answer, hostCharacters}
-use Rattle.rules.specs.Subcommand.{fieldTexts, withoutFirst}
-use Rattle.screen.specs.Words.{if_then_else_}
-use Rattle.decide.specs.declared.decision.Change.{Change}
-use Rattle.decide.specs.declared.decision.Change.the-variants.{Nothing, Put, Erase, Shift, Repeat}
+use Rattle.rules.specs.Subcommand.{preface, fieldTexts, withoutFirst}
+use Rattle.command.specs.Frame.{fitting}
+use Rattle.decide.specs.declared.decision.Edit.{Edit}
+use Rattle.decide.specs.declared.decision.Edit.the-variants.{Nothing, Put, Erase, Shift, Repeat}
 use Rattle.decide.specs.declared.decision.Say.{Say}
 use Rattle.decide.specs.declared.decision.Say.the-variants.{Silent, Negotiation, Two, Three, Preface, Text, Fields}
 use Rattle.decide.specs.declared.decision.Format.{Format}
 use Rattle.decide.specs.declared.decision.Format.the-variants.{Keep, Fill}
 use Rattle.decide.specs.declared.decision.Decision.{Decision}
-use Rattle.command.specs.Frame.{fitting}
-
-abbrev pub decision : Frame → Change → Say → Format → Decision
-decision f change say format = record { frame = f; change = change; say = say; format = format }
 
 -- what becomes of the characters, and where the cursor goes with them
-abbrev pub changeOf : View → Change → Effect
-changeOf v Nothing = quiet v
-changeOf v (Put cell c) = changing v (put cell c ∷ [])
-changeOf v (Erase suppressed from end) = changing v (erase suppressed from end ∷ [])
-changeOf v (Shift s from end) = changing v (shift s from end 1 ∷ [])
-changeOf v (Repeat n c) = hostCharacters n v c
-
--- the changes that are settled without the view: REPEAT has none
-abbrev pub editsOf : Change → List effect.Change
-editsOf Nothing = []
-editsOf (Put cell c) = put cell c ∷ []
-editsOf (Erase suppressed from end) = erase suppressed from end ∷ []
-editsOf (Shift s from end) = shift s from end 1 ∷ []
-editsOf (Repeat n c) = []
-
--- not REPEAT: these are all it does
-abbrev pub Once : Change → Type 0
-Once change = (v : View) → changeOf v change ≡ changing v (editsOf change)
-
-abbrev pub prefaceOf : Place → Part
-prefaceOf p = message (28 ∷ p .x .0 ∷ p .y .0 ∷ [])
+abbrev pub edited : View → Edit → Effect
+edited v Nothing = quiet v
+edited v (Put cell c) = changing v (put cell c ∷ [])
+edited v (Erase suppressed from end) = changing v (erase suppressed from end ∷ [])
+edited v (Shift s from end) = changing v (shift s from end 1 ∷ [])
+edited v (Repeat n c) = hostCharacters n v c
 
 -- what is sent
 abbrev pub partsOf : List ℕ → Say → List Part
@@ -53,9 +32,9 @@ partsOf attrs Silent = []
 partsOf attrs (Negotiation verb option) = answer verb option
 partsOf attrs (Two code a) = message (code ∷ a ∷ []) ∷ []
 partsOf attrs (Three code a b) = message (code ∷ a ∷ b ∷ []) ∷ []
-partsOf attrs (Preface p) = prefaceOf p ∷ []
-partsOf attrs (Text p from end) = prefaceOf p ∷ text from end ∷ []
-partsOf attrs (Fields p) = prefaceOf p ∷ withoutFirst (fieldTexts attrs 0 (length attrs))
+partsOf attrs (Preface p) = preface p ∷ []
+partsOf attrs (Text p from end) = preface p ∷ text from end ∷ []
+partsOf attrs (Fields p) = preface p ∷ withoutFirst (fieldTexts attrs 0 (length attrs))
 
 -- what becomes of the attribute bytes
 abbrev pub attrsOf : Format → List ℕ → List ℕ
@@ -64,7 +43,7 @@ attrsOf (Fill from end attr) attrs = formatted from end attr attrs
 
 abbrev pub meant : List ℕ → Decision → Effect
 meant attrs d =
-    let e = changeOf (view (d .frame) attrs) (d .change) in
+    let e = edited (view (d .frame) attrs) (d .edit) in
     record { view = withAttrs (e .view) (attrsOf (d .format) attrs); changes = e .changes; reply = partsOf attrs (d .say); executed = [] }
 
 -- an effect but for the commands that it executes, which no answer tells

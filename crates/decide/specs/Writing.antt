@@ -2,17 +2,15 @@
 use mathlib.Core.Path.{_≡_}
 use Prim.Native.Nat.{ℕ}
 use Rattle.screen.specs.Words.{if_then_else_}
-use Rattle.screen.specs.Cells.{placeOf}
-use Rattle.screen.specs.Scans.{nextOpen}
+use Rattle.screen.specs.Classes.{takes}
 use Rattle.screen.specs.declared.cell.Place.{Place}
 use Rattle.rules.specs.declared.Frame.{Frame}
-use Rattle.rules.specs.declared.Refusal.{Refusal}
-use Rattle.rules.specs.declared.Refusal.the-variants.{Taken, Guarded, WrongClass}
 use Rattle.rules.specs.declared.Key.{Key}
-use Rattle.rules.specs.declared.Key.the-variants.{Typed}
-use Rattle.rules.specs.Session.{View, placed, cursorCell, printable}
+use Rattle.rules.specs.declared.Destination.the-variants.{NextCell, NextOpen}
+use Rattle.rules.specs.Session.{View, placed, printable}
 use Rattle.rules.specs.Effect.{Effect, quiet}
-use Rattle.rules.specs.Telnet.{cursorGuarded, nextPlace, hostData}
+use Rattle.rules.specs.Cursor.{cursorGuarded, destination}
+use Rattle.rules.specs.Telnet.{hostData}
 use Rattle.rules.specs.Refusal.{isTaken, verdict}
 use Rattle.rules.specs.Key.{classAllows, keyTests, pressed}
 use Rattle.decide.specs.declared.text.Writer.{Writer}
@@ -20,31 +18,17 @@ use Rattle.decide.specs.declared.text.Writer.the-variants.{Host, Operato
 use Rattle.decide.specs.declared.text.Fate.{Fate}
 use Rattle.decide.specs.declared.text.Fate.the-variants.{Written, Dropped, RefusedByGuard, RefusedByClass}
 use Rattle.decide.specs.declared.text.Writing.{Writing}
-use Rattle.command.specs.Frame.{Fits}
 
 -- the host's character is dropped on a guarded cell; the operator's is refused there, and where it is not of the cell's class
 unfoldable pub fateOf : Writer → View → ℕ → Fate
 fateOf Host v c = if cursorGuarded v then Dropped else Written
-fateOf Operator v c = if cursorGuarded v then RefusedByGuard else if classAllows v (Typed c) then Written else RefusedByClass
+fateOf Operator v c =
+    if cursorGuarded v then RefusedByGuard else if classAllows v (λ attr. takes attr c) then Written else RefusedByClass
 
 -- where the cursor goes after a character
-unfoldable pub placeAfter : Writer → View → Place
-placeAfter Host v = nextPlace (v .frame)
-placeAfter Operator v = placeOf (v .frame .width) (nextOpen (v .frame .suppressed) (v .attrs) (cursorCell v))
-
--- what is done with a character of this fate
-unfoldable pub ifWritten : Fate → Effect → Effect → Effect
-ifWritten Written done none = done
-ifWritten Dropped done none = none
-ifWritten RefusedByGuard done none = none
-ifWritten RefusedByClass done none = none
-
--- the refusal of a typed character, by its fate
-abbrev pub refusalOf : Fate → Refusal
-refusalOf Written = Taken
-refusalOf Dropped = Taken
-refusalOf RefusedByGuard = Guarded
-refusalOf RefusedByClass = WrongClass
+abbrev pub placeAfter : Writer → View → Place
+placeAfter Host v = destination v NextCell
+placeAfter Operator v = destination v NextOpen
 
 -- the frame after a character of this fate
 unfoldable pub afterFate : Fate → Frame → Place → Frame
@@ -53,18 +37,13 @@ afterFate Dropped f next = f
 afterFate RefusedByGuard f next = f
 afterFate RefusedByClass f next = f
 
--- what a writer asks: the operator's cursor goes by the attribute bytes
-abbrev pub Ready : Writer → View → Type 0
-Ready Host v = Unit {0}
-Ready Operator v = Fits v
-
 pub record Writes (v : View) (writer : Writer) (c : ℕ) (w : Writing) : Type 0 where
   pub fate : w .fate ≡ fateOf writer v c
   pub frame : w .frame ≡ afterFate (w .fate) (v .frame) (placeAfter writer v)
 
 -- host data that is no character; a character is left to the others
-unfoldable pub effectOf : View → ℕ → Effect
-effectOf v b = if printable b then quiet v else hostData v b
+unfoldable pub controlOf : View → ℕ → Effect
+controlOf v b = if printable b then quiet v else hostData v b
 
 -- a key that is not refused
 abbrev pub pressedIfTaken : View → Key → Effect

@@ -1,13 +1,13 @@
 // What a host byte or a key is decided to do. Characters are named by their cells.
 ghost use mathlib.Core.Path.{_≡_};
-ghost use Rattle.decide.specs.Decision.{decision};
+ghost use Rattle.decide.specs.inner.Decision.{decision};
 use rules::Frame;
 use screen::cell::Place;
 use screen::edit::Shift;
 use telnet::Verb;
 
 // What becomes of the characters.
-pub enum Change {
+pub enum Edit {
     Nothing,
     Put {
         cell: usize,
@@ -67,39 +67,39 @@ pub enum Format {
 
 pub struct Decision {
     pub frame: Frame,
-    pub change: Change,
+    pub edit: Edit,
     pub say: Say,
     pub format: Format,
 }
 
 pub(crate) fn quiet(frame: Frame) -> Decision
-    ensures { λ r. ⌜ r ≡ decision frame Change.Nothing Say.Silent Format.Keep ⌝ }
+    ensures { λ r. ⌜ r ≡ decision frame Edit.Nothing Say.Silent Format.Keep ⌝ }
 {
     Decision {
         frame: frame,
-        change: Change::Nothing,
+        edit: Edit::Nothing,
         say: Say::Silent,
         format: Format::Keep,
     }
 }
 
 pub(crate) fn saying(frame: Frame, say: Say) -> Decision
-    ensures { λ r. ⌜ r ≡ decision frame Change.Nothing say Format.Keep ⌝ }
+    ensures { λ r. ⌜ r ≡ decision frame Edit.Nothing say Format.Keep ⌝ }
 {
     Decision {
         frame: frame,
-        change: Change::Nothing,
+        edit: Edit::Nothing,
         say: say,
         format: Format::Keep,
     }
 }
 
-pub(crate) fn changing(frame: Frame, change: Change) -> Decision
-    ensures { λ r. ⌜ r ≡ decision frame change Say.Silent Format.Keep ⌝ }
+pub(crate) fn editing(frame: Frame, edit: Edit) -> Decision
+    ensures { λ r. ⌜ r ≡ decision frame edit Say.Silent Format.Keep ⌝ }
 {
     Decision {
         frame: frame,
-        change: change,
+        edit: edit,
         say: Say::Silent,
         format: Format::Keep,
     }

@@ -7,32 +7,31 @@ ghost use Rattle.rules.specs.Refusal.{verdict};
 ghost use Rattle.command.specs.Frame.{Fits, seen};
 ghost use Rattle.decide.specs.Decision.{Decides, whereFits};
 ghost use Rattle.decide.specs.Writing.{pressedIfTaken};
-ghost use Rattle.decide.specs.Writing.{refusalOf};
-use crate::cursor::moved_to;
-use crate::decision::Change;
+ghost use Rattle.decide.specs.inner.Writing.{fateRefusal};
+use crate::change::char_shift;
+use crate::cursor::sent_to;
 use crate::decision::Decision;
+use crate::decision::Edit;
 use crate::decision::Say;
-use crate::decision::changing;
+use crate::decision::editing;
 use crate::decision::quiet;
 use crate::decision::saying;
-use crate::edit::char_shift;
 use crate::text::Fate;
 use crate::text::Writer;
 use crate::text::judge_character;
 use crate::text::write;
 use crate::transmit::transmit;
-use command::code::is_printable;
+use command::character::is_printable;
 use command::frame::cursor_cell;
 use command::frame::cursor_guarded;
 use command::frame::fits;
+use command::number::FN;
 use rules::Area;
+use rules::Destination;
 use rules::Frame;
 use rules::Key;
 use rules::Refusal;
 use screen::edit::Shift;
-use screen::scan::Target;
-use screen::scan::first;
-use screen::scan::last;
 
 // 128 to 143 are the function keys, numbered from 1.
 fn function_key(key: u8) -> Key
@@ -62,7 +61,7 @@ pub fn key_of(key: u8) -> Key
 
 // The refusal of a character that the operator types.
 fn refuse_typed(fate: Fate) -> Refusal
-    ensures { λ r. ⌜ r ≡ refusalOf fate ⌝ }
+    ensures { λ r. ⌜ r ≡ fateRefusal fate ⌝ }
 {
     match fate {
         Fate::Written => Refusal::Taken,
@@ -113,38 +112,13 @@ fn type_in(frame: Frame, attrs: &[u8], byte: u8) -> Decision
 {
     let writing = write(frame, attrs, Writer::Operator, byte);
     let cell = cursor_cell(frame);
-    changing(
+    editing(
         writing.frame,
-        Change::Put {
+        Edit::Put {
             cell: cell,
             byte: byte,
         },
     )
-}
-
-// 8: the previous cell that is not guarded; none, the cursor stays.
-fn go_back(frame: Frame, attrs: &[u8]) -> Decision
-    requires { ⌜ Fits (seen frame attrs) ⌝ }
-    ensures { λ r. ⌜ Decides (seen frame (attrs .entry)) r (λ v. pressed v Key.Back) ⌝ }
-{
-    let cell = cursor_cell(frame);
-    quiet(moved_to(
-        frame,
-        last(attrs, Target::Open(frame.suppressed), cell, cell),
-    ))
-}
-
-// 9: the next unprotected field's start after the cursor, else the first, else the cursor stays.
-fn tab(frame: Frame, attrs: &[u8]) -> Decision
-    requires { ⌜ Fits (seen frame attrs) ⌝ }
-    ensures { λ r. ⌜ Decides (seen frame (attrs .entry)) r (λ v. pressed v Key.Tab) ⌝ }
-{
-    let cell = cursor_cell(frame);
-    let wrapped = first(attrs, Target::UnprotectedStart, 0, cell);
-    quiet(moved_to(
-        frame,
-        first(attrs, Target::UnprotectedStart, cell + 1, wrapped),
-    ))
 }
 
 // What a key does that is not refused.
@@ -155,14 +129,14 @@ fn press_taken(frame: Frame, attrs: &[u8], key: Key) -> Decision
 {
     match key {
         Key::Typed(byte) => type_in(frame, attrs, byte),
-        Key::Back => go_back(frame, attrs),
-        Key::Tab => tab(frame, attrs),
+        Key::Back => quiet(sent_to(frame, attrs, Destination::PreviousOpen)),
+        Key::Tab => quiet(sent_to(frame, attrs, Destination::NextField)),
         Key::Send => transmit(frame, attrs, Area::Unprotected),
         Key::Delete => char_shift(frame, attrs, Shift::Deletion),
         Key::Function(number) => saying(
             frame,
             Say::Two {
-                code: 40,
+                code: FN,
                 a: number,
             },
         ),

@@ -1,7 +1,7 @@
 // What a host byte or a key is decided to do, from the session and the attribute bytes alone: nothing here sees a character.
+mod change;
 mod cursor;
 pub mod decision;
-mod edit;
 pub mod keys;
 pub mod negotiate;
 pub mod obey;

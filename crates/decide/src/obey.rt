@@ -2,61 +2,92 @@
 ghost use mathlib.Core.Path.{_≡_};
 ghost use mathlib.Core.List.{List, [], _∷_};
 ghost use Prim.Native.Nat.{ℕ};
-ghost use Rattle.rules.specs.Session.{view};
-ghost use Rattle.rules.specs.Effect.{message, saying};
 ghost use Rattle.telnet.specs.declared.Event.{Event};
+ghost use Rattle.rules.specs.Session.{view};
+ghost use Rattle.rules.specs.Number.{cursorPosition, error, ownMap, faultNumber};
+ghost use Rattle.rules.specs.Effect.{message, saying};
+ghost use Rattle.rules.specs.Subcommand.{suppressing, obeyed, subcommand};
 ghost use Rattle.rules.specs.Operation.{happening};
-ghost use Rattle.rules.specs.Command.{faultOf, faultNumber};
-ghost use Rattle.rules.specs.Subcommand.{ownMap, suppressing, obeyed, judged, subcommand};
 ghost use Rattle.command.specs.Frame.{Fits, seen};
-ghost use Rattle.decide.specs.Decision.{Decides, decision, whereFits};
-use crate::cursor::home;
+ghost use Rattle.decide.specs.Decision.{Decides, whereFits};
+ghost use Rattle.decide.specs.inner.Decision.{decision, Judges};
+use crate::change::char_shift;
+use crate::change::erase;
 use crate::cursor::limited;
-use crate::cursor::reverse_tab;
-use crate::decision::Change;
+use crate::cursor::sent_to;
 use crate::decision::Decision;
+use crate::decision::Edit;
 use crate::decision::Format;
 use crate::decision::Say;
-use crate::decision::changing;
+use crate::decision::editing;
 use crate::decision::quiet;
 use crate::decision::saying;
-use crate::edit::char_shift;
-use crate::edit::erase;
-use crate::text::step;
 use crate::transmit::transmit;
 use command::code::command_of;
-use command::code::fault_number;
-use command::code::fault_of;
-use command::code::format_end;
+use command::fault::fault_of;
+use command::fault::format_end;
 use command::frame::cursor_cell;
 use command::frame::fits;
-use command::frame::moved;
 use command::frame::switched;
 use command::held::code;
 use command::held::first_parameter;
 use command::held::second_parameter;
+use command::number::CURSOR_POSITION;
+use command::number::DET;
+use command::number::EDIT_FACILITIES;
+use command::number::EDIT_MAP;
+use command::number::ERASE_FACILITIES;
+use command::number::ERASE_MAP;
+use command::number::ERROR;
+use command::number::FORMAT_FACILITIES;
+use command::number::FORMAT_MAP;
+use command::number::SUPPRESS_PROTECTION;
+use command::number::TRANSMIT_FACILITIES;
+use command::number::TRANSMIT_MAP;
+use command::number::fault_number;
 use rules::Code;
 use rules::Command;
 use rules::Facility;
 use rules::Fault;
 use rules::Frame;
 use rules::Held;
-use screen::edit::Shift;
+use telnet::code::DO;
+use telnet::code::DONT;
+use telnet::code::WILL;
+use telnet::code::WONT;
 
 // 1 to 4: the terminal's own map.
 fn facilities(frame: Frame, facility: Facility) -> Decision
     ensures { λ r. ⌜ ((attrs : List ℕ) → Decides (view frame attrs) r (λ v. saying v (message (ownMap facility) ∷ []))) ⌝ }
 {
     match facility {
-        Facility::Editing => saying(frame, Say::Two { code: 1, a: 54 }),
-        Facility::Erasing => saying(frame, Say::Two { code: 2, a: 31 }),
-        Facility::Transmitting => saying(frame, Say::Two { code: 3, a: 63 }),
+        Facility::Editing => saying(
+            frame,
+            Say::Two {
+                code: EDIT_FACILITIES,
+                a: EDIT_MAP,
+            },
+        ),
+        Facility::Erasing => saying(
+            frame,
+            Say::Two {
+                code: ERASE_FACILITIES,
+                a: ERASE_MAP,
+            },
+        ),
+        Facility::Transmitting => saying(
+            frame,
+            Say::Two {
+                code: TRANSMIT_FACILITIES,
+                a: TRANSMIT_MAP,
+            },
+        ),
         Facility::Formatting => saying(
             frame,
             Say::Three {
-                code: 4,
-                a: 144,
-                b: 121,
+                code: FORMAT_FACILITIES,
+                a: FORMAT_MAP[0],
+                b: FORMAT_MAP[1],
             },
         ),
     }
@@ -64,13 +95,13 @@ fn facilities(frame: Frame, facility: Facility) -> Decision
 
 // 17: answer 18 x y.
 fn read_cursor(frame: Frame) -> Decision
-    ensures { λ r. ⌜ r ≡ decision frame Change.Nothing (Say.Three 18 (frame .cursor .x .0) (frame .cursor .y .0)) Format.Keep ⌝ }
+    ensures { λ r. ⌜ r ≡ decision frame Edit.Nothing (Say.Three cursorPosition (frame .cursor .x .0) (frame .cursor .y .0)) Format.Keep ⌝ }
 {
     let cursor = frame.cursor;
     saying(
         frame,
         Say::Three {
-            code: 18,
+            code: CURSOR_POSITION,
             a: cursor.x.0,
             b: cursor.y.0,
         },
@@ -83,7 +114,7 @@ fn format_data(frame: Frame, held: Held) -> Decision
 {
     Decision {
         frame: frame,
-        change: Change::Nothing,
+        edit: Edit::Nothing,
         say: Say::Silent,
         format: Format::Fill {
             from: cursor_cell(frame),
@@ -98,25 +129,37 @@ fn suppress(frame: Frame, parameter: u8) -> Decision
     ensures { λ r. ⌜ ((attrs : List ℕ) → Decides (view frame attrs) r (λ v. suppressing v parameter)) ⌝ }
 {
     match parameter {
-        253 => {
+        DO => {
             if frame.suppressed {
                 return quiet(frame);
             }
             saying(
                 switched(frame, frame.det, true),
-                Say::Two { code: 38, a: 251 },
+                Say::Two {
+                    code: SUPPRESS_PROTECTION,
+                    a: WILL,
+                },
             )
         }
-        254 => {
+        DONT => {
             if frame.suppressed {
                 return saying(
                     switched(frame, frame.det, false),
-                    Say::Two { code: 38, a: 252 },
+                    Say::Two {
+                        code: SUPPRESS_PROTECTION,
+                        a: WONT,
+                    },
                 );
             }
             quiet(frame)
         }
-        251 => saying(frame, Say::Two { code: 38, a: 254 }),
+        WILL => saying(
+            frame,
+            Say::Two {
+                code: SUPPRESS_PROTECTION,
+                a: DONT,
+            },
+        ),
         _ => quiet(frame),
     }
 }
@@ -129,18 +172,15 @@ fn obey(frame: Frame, attrs: &[u8], command: Command, held: Held) -> Decision
     match command {
         Command::Facilities(facility) => facilities(frame, facility),
         Command::MoveCursor => quiet(limited(frame, held)),
-        Command::Step(direction) => quiet(moved(frame, step(frame, direction))),
-        Command::Home => quiet(home(frame, attrs)),
-        Command::CharInsert => char_shift(frame, attrs, Shift::Insertion),
-        Command::CharDelete => char_shift(frame, attrs, Shift::Deletion),
+        Command::Move(to) => quiet(sent_to(frame, attrs, to)),
+        Command::CharShift(shift) => char_shift(frame, attrs, shift),
         Command::ReadCursor => read_cursor(frame),
-        Command::ReverseTab => quiet(reverse_tab(frame, attrs)),
         Command::Transmit(area) => transmit(frame, attrs, area),
         Command::Erase(area) => erase(frame, attrs, area),
         Command::FormatData => format_data(frame, held),
-        Command::Repeat => changing(
+        Command::Repeat => editing(
             frame,
-            Change::Repeat {
+            Edit::Repeat {
                 count: first_parameter(held),
                 byte: second_parameter(held),
             },
@@ -152,12 +192,12 @@ fn obey(frame: Frame, attrs: &[u8], command: Command, held: Held) -> Decision
 
 // 41, the command and the number.
 fn err(frame: Frame, code: u8, fault: Fault) -> Decision
-    ensures { λ r. ⌜ r ≡ decision frame Change.Nothing (Say.Three 41 code (faultNumber fault)) Format.Keep ⌝ }
+    ensures { λ r. ⌜ r ≡ decision frame Edit.Nothing (Say.Three error code (faultNumber fault)) Format.Keep ⌝ }
 {
     saying(
         frame,
         Say::Three {
-            code: 41,
+            code: ERROR,
             a: code,
             b: fault_number(fault),
         },
@@ -165,11 +205,11 @@ fn err(frame: Frame, code: u8, fault: Fault) -> Decision
 }
 
 // A known command: obeyed, or an ERROR, which MOVE CURSOR draws after it has limited.
-fn judge(frame: Frame, attrs: &[u8], command: Command, held: Held) -> Decision
+fn judge(frame: Frame, attrs: &[u8], command: Command, parameters: u8, held: Held) -> Decision
     requires { ⌜ Fits (seen frame attrs) ⌝ }
-    ensures { λ r. ⌜ Decides (seen frame (attrs .entry)) r (λ v. judged v command held (faultOf v command held)) ⌝ }
+    ensures { λ r. ⌜ Judges (seen frame (attrs .entry)) r command parameters held ⌝ }
 {
-    let fault = fault_of(frame, attrs, command, held);
+    let fault = fault_of(frame, attrs, command, parameters, held);
     let number = code(held);
     match fault {
         Fault::NoFault => obey(frame, attrs, command, held),
@@ -194,7 +234,10 @@ fn obey_held(frame: Frame, attrs: &[u8], held: Held) -> Decision
     let number = code(held);
     let known = command_of(number);
     match known {
-        Code::Known(command) => judge(frame, attrs, command, held),
+        Code::Known {
+            command,
+            parameters,
+        } => judge(frame, attrs, command, parameters, held),
         Code::Unknown => err(frame, number, Fault::UnknownCode),
     }
 }
@@ -204,7 +247,7 @@ fn end_fitting(frame: Frame, attrs: &[u8], held: Held, option: u8) -> Decision
     requires { ⌜ Fits (seen frame attrs) ⌝ }
     ensures { λ r. ⌜ Decides (seen frame (attrs .entry)) r (λ v. happening v held (Event.End option)) ⌝ }
 {
-    if option != 20 {
+    if option != DET {
         return quiet(frame);
     }
     if frame.det {

@@ -1,40 +1,34 @@
 // Transmissions, 20 to 26: a preface, and the text of a range of cells.
 ghost use mathlib.Core.Path.{_≡_};
-ghost use mathlib.Core.List.{List};
-ghost use Prim.Native.Nat.{ℕ, _*_, _≤_, _<_};
-ghost use Rattle.screen.specs.Cells.{cellOf, placeOf};
-ghost use Rattle.rules.specs.Session.{view};
+ghost use Prim.Native.Nat.{_≤_};
+ghost use Rattle.screen.specs.Cells.{cellOf};
 ghost use Rattle.rules.specs.Subcommand.{fieldFrom, transmitted};
-ghost use Rattle.command.specs.Frame.{OnScreen, Fits, seen};
-ghost use Rattle.decide.specs.Decision.{Decides, decision};
-use crate::cursor::first_field;
-use crate::cursor::origin;
-use crate::decision::Change;
+ghost use Rattle.command.specs.Frame.{Fits, seen};
+ghost use Rattle.decide.specs.Decision.{Decides};
+ghost use Rattle.decide.specs.inner.Decision.{decision};
+use crate::cursor::place_on;
+use crate::cursor::sent_to;
+use crate::cursor::start_of_line;
 use crate::decision::Decision;
+use crate::decision::Edit;
 use crate::decision::Format;
 use crate::decision::Say;
 use crate::decision::saying;
-use crate::text::step;
 use command::frame::cursor_cell;
 use command::frame::cursor_guarded;
-use command::frame::moved;
 use rules::Area;
-use rules::Direction;
+use rules::Destination;
 use rules::Frame;
-use screen::cell::Column;
 use screen::cell::Place;
 use screen::cell::line_end;
 use screen::cell::line_start;
-use screen::cell::place_of;
 use screen::field::field_end;
 use screen::field::field_start;
 
-// The text of a range, prefaced by its first cell's place. The frame is the one afterwards.
-fn send(frame: Frame, from: usize, end: usize) -> Decision
-    requires { ⌜ from < frame .height * frame .width ⌝ }
-    ensures { λ r. ⌜ r ≡ decision frame Change.Nothing (Say.Text (placeOf (frame .width) from) from end) Format.Keep ⌝ }
+// The text of a range, prefaced by a place. The frame is the one afterwards.
+fn send(frame: Frame, place: Place, from: usize, end: usize) -> Decision
+    ensures { λ r. ⌜ r ≡ decision frame Edit.Nothing (Say.Text place from end) Format.Keep ⌝ }
 {
-    let place = place_of(frame.width, from);
     saying(
         frame,
         Say::Text {
@@ -45,33 +39,36 @@ fn send(frame: Frame, from: usize, end: usize) -> Decision
     )
 }
 
+// 20: the cursor goes to the corner, which is also the first cell sent.
+fn send_screen(frame: Frame, attrs: &[u8]) -> Decision
+    requires { ⌜ Fits (seen frame attrs) ⌝ }
+    ensures { λ r. ⌜ Decides (seen frame (attrs .entry)) r (λ v. transmitted v Area.WholeScreen) ⌝ }
+{
+    let next = sent_to(frame, attrs, Destination::Corner);
+    let corner = next.cursor;
+    send(next, corner, 0, attrs.len())
+}
+
 // 22: the cursor goes to the start of the next line.
-fn send_line(frame: Frame) -> Decision
-    requires { ⌜ OnScreen frame ⌝ }
-    ensures { λ r. ⌜ ((attrs : List ℕ) → Fits (view frame attrs) → Decides (view frame attrs) r (λ v. transmitted v Area.WholeLine)) ⌝ }
+fn send_line(frame: Frame, attrs: &[u8]) -> Decision
+    requires { ⌜ Fits (seen frame attrs) ⌝ }
+    ensures { λ r. ⌜ Decides (seen frame (attrs .entry)) r (λ v. transmitted v Area.WholeLine) ⌝ }
 {
     let y = frame.cursor.y;
-    let below = step(frame, Direction::Down);
-    let next = below.y;
     send(
-        moved(
-            frame,
-            Place {
-                x: Column(0),
-                y: next,
-            },
-        ),
+        sent_to(frame, attrs, Destination::NextLine),
+        start_of_line(frame),
         line_start(frame.width, y),
         line_end(frame.width, y),
     )
 }
 
-// 21: every unprotected field, prefaced by the first one's place.
+// 21: every unprotected field, prefaced by the first one's place, where the cursor goes.
 fn send_unprotected(frame: Frame, attrs: &[u8]) -> Decision
     requires { ⌜ Fits (seen frame attrs) ⌝ }
     ensures { λ r. ⌜ Decides (seen frame (attrs .entry)) r (λ v. transmitted v Area.Unprotected) ⌝ }
 {
-    let next = first_field(frame, attrs);
+    let next = sent_to(frame, attrs, Destination::FirstField);
     let place = next.cursor;
     saying(next, Say::Fields(place))
 }
@@ -87,7 +84,12 @@ fn send_field(frame: Frame, attrs: &[u8], from: usize) -> Decision
         let cursor = frame.cursor;
         return saying(frame, Say::Preface(cursor));
     }
-    send(frame, from, field_end(attrs, cursor_cell(frame)))
+    send(
+        frame,
+        place_on(frame, from),
+        from,
+        field_end(attrs, cursor_cell(frame)),
+    )
 }
 
 pub(crate) fn transmit(frame: Frame, attrs: &[u8], area: Area) -> Decision
@@ -95,16 +97,14 @@ pub(crate) fn transmit(frame: Frame, attrs: &[u8], area: Area) -> Decision
     ensures { λ r. ⌜ Decides (seen frame (attrs .entry)) r (λ v. transmitted v area) ⌝ }
 {
     let cell = cursor_cell(frame);
+    let cursor = frame.cursor;
     match area {
-        Area::WholeScreen => send(origin(frame), 0, attrs.len()),
+        Area::WholeScreen => send_screen(frame, attrs),
         Area::Unprotected => send_unprotected(frame, attrs),
-        Area::WholeLine => send_line(frame),
+        Area::WholeLine => send_line(frame, attrs),
         Area::WholeField => send_field(frame, attrs, field_start(attrs, cell)),
-        Area::RestOfScreen => send(frame, cell, attrs.len()),
-        Area::RestOfLine => {
-            let y = frame.cursor.y;
-            send(frame, cell, line_end(frame.width, y))
-        }
+        Area::RestOfScreen => send(frame, cursor, cell, attrs.len()),
+        Area::RestOfLine => send(frame, cursor, cell, line_end(frame.width, cursor.y)),
         Area::RestOfField => send_field(frame, attrs, cell),
     }
 }

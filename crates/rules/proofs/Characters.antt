@@ -81,15 +81,15 @@ Fine (put cell c) = printable c ≡ true
 Fine (erase suppressed from end) = Unit {0}
 Fine (shift s from end by) = Unit {0}
 
-module _ (attrs chars : List ℕ) where
+module _ (chars attrs : List ℕ) where
   -- a change keeps the number of characters
-  pub changed-length : (c : Change) → length (changed attrs c chars) ≡ length chars
+  pub changed-length : (c : Change) → length (changed chars attrs c) ≡ length chars
   unfolding changed
   changed-length (put cell c) = length-set chars cell c
   changed-length (erase suppressed from end) = erased-length suppressed attrs from end chars
   changed-length (shift s from end by) = onPart-length from end (shifted s by) (shifted-length s by) chars
 
-  changed-printable : (c : Change) → Fine c → allPrintable chars ≡ true → allPrintable (changed attrs c chars) ≡ true
+  changed-printable : (c : Change) → Fine c → allPrintable chars ≡ true → allPrintable (changed chars attrs c) ≡ true
   unfolding changed erased
   changed-printable (put cell c) f e = printable-set chars cell c e f
   changed-printable (erase suppressed from end) f e =
@@ -97,12 +97,12 @@ module _ (attrs chars : List ℕ) where
   changed-printable (shift s from end by) f e = printable-part from end (shifted s by) (printable-shifted s by) chars e
 
   -- and keeps them printable
-  pub text-changed : {cells : ℕ} (c : Change) → Fine c → Text cells chars → Text cells (changed attrs c chars)
+  pub text-changed : {cells : ℕ} (c : Change) → Fine c → Text cells chars → Text cells (changed chars attrs c)
   text-changed c f t = record { long = changed-length c ∙ t .long; printing = changed-printable c f (t .printing) }
 
 -- some changes, and then others
-pub changed-append : (attrs chars : List ℕ) (xs ys : List Change)
-    → changedAll attrs (xs ++ ys) chars ≡ changedAll attrs ys (changedAll attrs xs chars)
+pub changed-append : (chars attrs : List ℕ) (xs ys : List Change)
+    → changedAll chars attrs (xs ++ ys) ≡ changedAll (changedAll chars attrs xs) attrs ys
 unfolding changedAll
-changed-append attrs chars [] ys = refl
-changed-append attrs chars (x ∷ xs) ys = changed-append attrs (changed attrs x chars) xs ys
+changed-append chars attrs [] ys = refl
+changed-append chars attrs (x ∷ xs) ys = changed-append (changed chars attrs x) attrs xs ys

@@ -12,43 +12,42 @@ use Rattle.telnet.specs.declared.Event.{Event}
 use Rattle.telnet.specs.declared.Event.the-variants.{Nothing, Data, Negotiation, Begin, Sub, End, EndBare, Lost}
 use Rattle.telnet.specs.Writer.{doubled, subnegotiation, negotiation}
 use Rattle.screen.specs.declared.edit.Shift.{Shift}
-use Rattle.screen.specs.declared.edit.Shift.the-variants.{Insertion, Deletion}
+use Rattle.screen.specs.declared.edit.Shift.the-variants.{Deletion}
 use Rattle.screen.specs.declared.cell.Place.{Place}
 use Rattle.screen.specs.Words.{if_then_else_, between}
 use Rattle.screen.specs.Cells.{placeOf}
 use Rattle.screen.proofs.WordLaws.{either}
-use Rattle.screen.proofs.FieldLaws.{nextOpen-lt}
 use Rattle.screen.proofs.EditLaws.{formatted-length}
 use Rattle.rules.specs.declared.Held.{Held}
 use Rattle.rules.specs.declared.Facility.{Facility}
 use Rattle.rules.specs.declared.Facility.the-variants.{Editing, Erasing, Transmitting, Formatting}
-use Rattle.rules.specs.declared.Direction.the-variants.{Down, Left}
+use Rattle.rules.specs.declared.Destination.the-variants.{Down, Left, Corner, LineStart, NextLine, NextCell, FirstField, NextField, NextOpen, PreviousOpen}
 use Rattle.rules.specs.declared.Area.{Area}
 use Rattle.rules.specs.declared.Area.the-variants.{WholeScreen, Unprotected, WholeLine, WholeField, RestOfScreen, RestOfLine, RestOfField}
 use Rattle.rules.specs.declared.Command.{Command}
-use Rattle.rules.specs.declared.Command.the-variants.{Facilities, MoveCursor, Step, Home, CharInsert, CharDelete, ReadCursor, ReverseTab, Transmit, Erase, FormatData, Repeat, SuppressProtection, Error}
-use Rattle.rules.specs.declared.Code.{Code}
-use Rattle.rules.specs.declared.Code.the-variants.{Known, Unknown}
+use Rattle.rules.specs.declared.Command.the-variants.{Facilities, MoveCursor, Move, CharShift, ReadCursor, Transmit, Erase, FormatData, Repeat, SuppressProtection, Error}
 use Rattle.rules.specs.declared.Fault.{Fault}
 use Rattle.rules.specs.declared.Fault.the-variants.{NoFault, UnknownCode, OffScreen, TooManyParameters, TooFewParameters, BadValue, BadMap}
 use Rattle.rules.specs.declared.Key.{Key}
 use Rattle.rules.specs.declared.Key.the-variants.{Typed, Back, Tab, Send, Delete, Function, Meaningless}
 use Rattle.rules.specs.Session.{View, printable}
 use Rattle.rules.specs.Effect.{Effect, Change, Part, bytes, text, changedAll, message, changing, saying, quiet}
-use Rattle.rules.specs.Telnet.{cursorGuarded, negotiated, hostCharacter, hostCharacters, hostData}
-use Rattle.rules.specs.Command.{parameter, valueFault, faultOf}
-use Rattle.rules.specs.Subcommand.{preface, unlessGuarded, fieldFrom, transmitted, erasure, ownMap, shifting, suppressing, obeyed, judged, looked, subcommand}
+use Rattle.rules.specs.Number.{detOption, dataTransmit, cursorPosition, error, ownMap}
+use Rattle.rules.specs.Cursor.{cursorGuarded, destination}
+use Rattle.rules.specs.Telnet.{negotiated, hostCharacter, hostCharacters, hostData}
+use Rattle.rules.specs.Command.{Row, Listed, listed, unlisted, parameter, placeIn, valueFault, faultOf}
+use Rattle.rules.specs.Subcommand.{preface, unlessGuarded, fieldFrom, transmitted, erasure, shifting, suppressing, obeyed, judged, looked, subcommand}
 use Rattle.rules.specs.Key.{keyOf, pressed}
 use Rattle.rules.specs.Operation.{happening}
 use Rattle.rules.proofs.Characters.{Text, Fine, text-changed, changed-append}
 use Rattle.rules.proofs.Errors.{no-fault}
 use Rattle.rules.proofs.Replies.{Fits, Follows, fits-nothing, fits-bytes, fits-prefaced, place-message, error-message, function-message, one-text, no-text, fields-text}
-use Rattle.rules.proofs.Views.{On, SoundView, Within, at-place, switched, attributed, origin-on, stepped-on, next-on, limited-on, place-on, at-cell, cursor-lt, some, home-lt, back-tab-lt, first-field-lt, previous-lt, next-field-lt, line-lt, field-lt}
+use Rattle.rules.proofs.Views.{On, SoundView, at-place, switched, attributed, limited-on, place-on, some, field-lt, cursor-lt, destination-on, goes}
 
 -- what an effect keeps on a screen m cells wide and n lines high
 pub record Keeps (m n : ℕ) (e : Effect) : Type 0 where
   pub view : SoundView m n (e .view)
-  pub changes : (attrs chars : List ℕ) → Text (n * m) chars → Text (n * m) (changedAll attrs (e .changes) chars)
+  pub changes : (attrs chars : List ℕ) → Text (n * m) chars → Text (n * m) (changedAll chars attrs (e .changes))
   pub reply : Fits m n (e .reply)
   pub executed : length (e .executed) ≤ 1
 
@@ -71,13 +70,13 @@ module _ {m n : ℕ} {v : View} (k : SoundView m n v) where
   changes : (c : Change) → Fine c → Keeps m n (changing v (c ∷ []))
   unfolding changedAll
   changes c f =
-      record { view = k; changes = λ attrs chars t. text-changed attrs chars c f t; reply = fits-nothing m n; executed = omega arith }
+      record { view = k; changes = λ attrs chars t. text-changed chars attrs c f t; reply = fits-nothing m n; executed = omega arith }
 
   place-long : (code : ℕ) → eqb code 255 ≡ false → (p : Place) → On m n p
-      → length (subnegotiation 20 (code ∷ p .x .0 ∷ p .y .0 ∷ [])) ≡ 8
+      → length (subnegotiation detOption (code ∷ p .x .0 ∷ p .y .0 ∷ [])) ≡ 8
   place-long code e p h = place-message code (p .x .0) (p .y .0) e (omega arith) (omega arith)
 
-  errs : (code number : ℕ) → eqb number 255 ≡ false → Keeps m n (saying v (message (41 ∷ code ∷ number ∷ []) ∷ []))
+  errs : (code number : ℕ) → eqb number 255 ≡ false → Keeps m n (saying v (message (error ∷ code ∷ number ∷ []) ∷ []))
   errs code number e = tells _ (error-message code number e)
 
 answers : {m n : ℕ} {w : View} (b : Bool) {ps qs : List Part} → Keeps m n (saying w ps) → Keeps m n (saying w qs)
@@ -90,23 +89,23 @@ answers false p q = q
 module _ {m n : ℕ} {v : View} (k : SoundView m n v) where
   keeps-character : (c : ℕ) → printable c ≡ true → Keeps m n (hostCharacter v c)
   unfolding hostCharacter
-  keeps-character c p = either (Keeps m n) (cursorGuarded v) (λ g. quietly k) (λ g. changes (at-place k _ (next-on k)) _ p)
+  keeps-character c p = either (Keeps m n) (cursorGuarded v) (λ g. quietly k) (λ g. changes (goes k NextCell) _ p)
 
   keeps-data : (b : ℕ) → Keeps m n (hostData v b)
   unfolding hostData
   keeps-data b =
       either (Keeps m n) (printable b) (keeps-character b)
-      (λ p. either (Keeps m n) (eqb b 13) (λ q. quietly (at-place k _ (omega arith)))
-      (λ q. either (Keeps m n) (eqb b 10) (λ q. quietly (at-place k _ (stepped-on k Down)))
-      (λ q. either (Keeps m n) (eqb b 8) (λ q. quietly (at-place k _ (stepped-on k Left))) (λ q. quietly k))))
+      (λ p. either (Keeps m n) (eqb b 13) (λ q. quietly (goes k LineStart))
+      (λ q. either (Keeps m n) (eqb b 10) (λ q. quietly (goes k Down))
+      (λ q. either (Keeps m n) (eqb b 8) (λ q. quietly (goes k Left)) (λ q. quietly k))))
 
   keeps-negotiated : (verb : Verb) (option : ℕ) → Keeps m n (negotiated v verb option)
   unfolding negotiated negotiation
   keeps-negotiated Do option =
-      either (Keeps m n) (not (eqb option 20)) (λ q. tells k _ (omega arith))
+      either (Keeps m n) (not (eqb option detOption)) (λ q. tells k _ (omega arith))
       (λ q. either (Keeps m n) (v .frame .det) (λ q. quietly k) (λ q. tells (switched k _ _) _ (omega arith)))
   keeps-negotiated Dont option =
-      either (Keeps m n) (eqb option 20 && v .frame .det) (λ q. tells (switched k _ _) _ (omega arith)) (λ q. quietly k)
+      either (Keeps m n) (eqb option detOption && v .frame .det) (λ q. tells (switched k _ _) _ (omega arith)) (λ q. quietly k)
   keeps-negotiated Will option = tells k _ (omega arith)
   keeps-negotiated Wont option = quietly k
 
@@ -132,10 +131,9 @@ chosen false e = cc
 
 module _ {m n : ℕ} {v : View} (k : SoundView m n v) where
   -- a transmission, which leaves another view
-  sends : {w : View} → SoundView m n w → (cell : ℕ) → Within v cell → (ps : List Part) → Follows (n * m) ps
-      → Keeps m n (saying w (preface v cell ∷ ps))
-  sends f cell h ps g =
-      says f _ (fits-prefaced m n _ ps (place-long k 28 refl (placeOf (v .frame .width) cell) (place-on k cell h)) g)
+  sends : {w : View} → SoundView m n w → (p : Place) → On m n p → (ps : List Part) → Follows (n * m) ps
+      → Keeps m n (saying w (preface p ∷ ps))
+  sends f p h ps g = says f _ (fits-prefaced m n _ ps (place-long k dataTransmit refl p h) g)
 
   a-text : (from end : ℕ) → Follows (n * m) (text from end ∷ [])
   a-text = one-text (cells-some k)
@@ -143,24 +141,24 @@ module _ {m n : ℕ} {v : View} (k : SoundView m n v) where
   open-text : (from end : ℕ) → Follows (n * m) (unlessGuarded v (text from end))
   open-text from end = either (Follows (n * m)) (cursorGuarded v) (λ g. no-text (cells-some k)) (λ g. a-text from end)
 
-  sends-field : (from : ℕ) → Within v from → Keeps m n (fieldFrom v from)
-  sends-field from h = sends k _ (either (Within v) (cursorGuarded v) (λ g. cursor-lt k) (λ g. h)) _ (open-text _ _)
+  sends-field : (from : ℕ) → On m n (placeOf (v .frame .width) from) → Keeps m n (fieldFrom v from)
+  sends-field from h = sends k _ (either (On m n) (cursorGuarded v) (λ g. k .cursor) (λ g. h)) _ (open-text _ _)
 
   keeps-transmitted : (a : Area) → Keeps m n (transmitted v a)
   unfolding transmitted
-  keeps-transmitted WholeScreen = sends (at-place k _ (origin-on k)) 0 (some k) _ (a-text _ _)
+  keeps-transmitted WholeScreen = sends (goes k Corner) _ (destination-on k Corner) _ (a-text _ _)
   keeps-transmitted Unprotected =
-      sends (at-cell k _ (first-field-lt k)) _ (first-field-lt k) _ (rw (← k .attrs) (fields-text (v .attrs) (some k)))
-  keeps-transmitted WholeLine = sends (at-place k _ (omega (arith, stepped-on k Down))) _ (line-lt k) _ (a-text _ _)
-  keeps-transmitted RestOfScreen = sends k _ (cursor-lt k) _ (a-text _ _)
-  keeps-transmitted RestOfLine = sends k _ (cursor-lt k) _ (a-text _ _)
-  keeps-transmitted WholeField = sends-field _ (field-lt k)
-  keeps-transmitted RestOfField = sends-field _ (cursor-lt k)
+      sends (goes k FirstField) _ (destination-on k FirstField) _ (rw (← k .attrs) (fields-text (v .attrs) (some k)))
+  keeps-transmitted WholeLine = sends (goes k NextLine) _ (destination-on k LineStart) _ (a-text _ _)
+  keeps-transmitted RestOfScreen = sends k _ (k .cursor) _ (a-text _ _)
+  keeps-transmitted RestOfLine = sends k _ (k .cursor) _ (a-text _ _)
+  keeps-transmitted WholeField = sends-field _ (place-on k _ (field-lt k))
+  keeps-transmitted RestOfField = sends-field _ (place-on k _ (cursor-lt k))
 
   keeps-erasure : (a : Area) → Keeps m n (erasure v a)
   unfolding erasure
-  keeps-erasure WholeScreen = changes (attributed (at-place k _ (origin-on k)) _ (length-replicate _ 0)) _ tt
-  keeps-erasure Unprotected = changes (at-cell k _ (first-field-lt k)) _ tt
+  keeps-erasure WholeScreen = changes (attributed (goes k Corner) _ (length-replicate _ 0)) _ tt
+  keeps-erasure Unprotected = changes (goes k FirstField) _ tt
   keeps-erasure WholeLine = changes k _ tt
   keeps-erasure WholeField = changes k _ tt
   keeps-erasure RestOfScreen = changes k _ tt
@@ -189,13 +187,10 @@ module _ {m n : ℕ} {v : View} (k : SoundView m n v) where
   keeps-obeyed : (c : Command) (h : Held) → valueFault v c h ≡ NoFault → Keeps m n (obeyed v c h)
   unfolding obeyed valueFault
   keeps-obeyed (Facilities f) h e = keeps-map f
-  keeps-obeyed MoveCursor h e = quietly (at-place k _ (limited-on k h))
-  keeps-obeyed (Step d) h e = quietly (at-place k _ (stepped-on k d))
-  keeps-obeyed Home h e = quietly (at-cell k _ (home-lt k))
-  keeps-obeyed CharInsert h e = keeps-shift Insertion
-  keeps-obeyed CharDelete h e = keeps-shift Deletion
-  keeps-obeyed ReadCursor h e = tells k _ (omega (arith, place-long k 18 refl (v .frame .cursor) (k .cursor)))
-  keeps-obeyed ReverseTab h e = quietly (at-cell k _ (back-tab-lt k))
+  keeps-obeyed MoveCursor h e = quietly (at-place k _ (limited-on k (placeIn h)))
+  keeps-obeyed (Move to) h e = quietly (goes k to)
+  keeps-obeyed (CharShift s) h e = keeps-shift s
+  keeps-obeyed ReadCursor h e = tells k _ (omega (arith, place-long k cursorPosition refl (v .frame .cursor) (k .cursor)))
   keeps-obeyed (Transmit a) h e = keeps-transmitted a
   keeps-obeyed (Erase a) h e = keeps-erasure a
   keeps-obeyed FormatData h e = quietly (attributed k _ (formatted-length _ _ _ _))
@@ -203,22 +198,22 @@ module _ {m n : ℕ} {v : View} (k : SoundView m n v) where
   keeps-obeyed SuppressProtection h e = keeps-suppressing _
   keeps-obeyed Error h e = quietly k
 
-  keeps-judged : (c : Command) (h : Held) (f : Fault) → faultOf v c h ≡ f → Keeps m n (judged v c h f)
+  keeps-judged : (r : Row) (h : Held) (f : Fault) → faultOf v (r .command) (r .parameters) h ≡ f → Keeps m n (judged v r h f)
   unfolding judged
-  keeps-judged c h NoFault e =
-      let o = keeps-obeyed c h (no-fault v c h e) in
+  keeps-judged r h NoFault e =
+      let o = keeps-obeyed (r .command) h (no-fault v _ _ h e) in
       record { view = o .view; changes = o .changes; reply = o .reply; executed = omega arith }
-  keeps-judged c h OffScreen e = errs (at-place k _ (limited-on k h)) _ 3 refl
-  keeps-judged c h UnknownCode e = errs k _ 2 refl
-  keeps-judged c h TooManyParameters e = errs k _ 9 refl
-  keeps-judged c h TooFewParameters e = errs k _ 10 refl
-  keeps-judged c h BadValue e = errs k _ 11 refl
-  keeps-judged c h BadMap e = errs k _ 12 refl
+  keeps-judged r h OffScreen e = errs (at-place k _ (limited-on k (placeIn h))) _ 3 refl
+  keeps-judged r h UnknownCode e = errs k _ 2 refl
+  keeps-judged r h TooManyParameters e = errs k _ 9 refl
+  keeps-judged r h TooFewParameters e = errs k _ 10 refl
+  keeps-judged r h BadValue e = errs k _ 11 refl
+  keeps-judged r h BadMap e = errs k _ 12 refl
 
-  keeps-looked : (c : Code) (h : Held) → Keeps m n (looked v c h)
+  keeps-looked : (l : Listed) (h : Held) → Keeps m n (looked v l h)
   unfolding looked
-  keeps-looked Unknown h = errs k _ 2 refl
-  keeps-looked (Known c) h = keeps-judged c h (faultOf v c h) refl
+  keeps-looked unlisted h = errs k _ 2 refl
+  keeps-looked (listed r) h = keeps-judged r h _ refl
 
   keeps-subcommand : (h : Held) → Keeps m n (subcommand v h)
   unfolding subcommand
@@ -235,7 +230,7 @@ keeps-happening k h (Negotiation verb option) = keeps-negotiated k verb option
 keeps-happening k h (Begin option) = quietly k
 keeps-happening k h (Sub option b) = quietly k
 keeps-happening {m} {n} {v} k h (End option) =
-    either (Keeps m n) (eqb option 20 && v .frame .det) (λ q. keeps-subcommand k h) (λ q. quietly k)
+    either (Keeps m n) (eqb option detOption && v .frame .det) (λ q. keeps-subcommand k h) (λ q. quietly k)
 keeps-happening k h EndBare = quietly k
 keeps-happening k h Lost = quietly k
 
@@ -268,9 +263,9 @@ typable code =
 
 keeps-pressed : {m n : ℕ} {v : View} → SoundView m n v → (key : Key) → Typable key → Keeps m n (pressed v key)
 unfolding pressed
-keeps-pressed k (Typed c) p = changes (at-cell k _ (nextOpen-lt _ _ _ (cursor-lt k))) _ p
-keeps-pressed k Back p = quietly (at-cell k _ (previous-lt k))
-keeps-pressed k Tab p = quietly (at-cell k _ (next-field-lt k))
+keeps-pressed k (Typed c) p = changes (goes k NextOpen) _ p
+keeps-pressed k Back p = quietly (goes k PreviousOpen)
+keeps-pressed k Tab p = quietly (goes k NextField)
 keeps-pressed k Send p = keeps-transmitted k Unprotected
 keeps-pressed k Delete p = keeps-shift k Deletion
 keeps-pressed k (Function f) p = tells k _ (function-message f)

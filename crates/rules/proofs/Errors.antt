@@ -8,20 +8,19 @@ use lib.ListN.{length}
 use Rattle.screen.proofs.WordLaws.{either}
 use Rattle.rules.specs.declared.Held.{Held}
 use Rattle.rules.specs.declared.Command.{Command}
-use Rattle.rules.specs.declared.Code.{Code}
-use Rattle.rules.specs.declared.Code.the-variants.{Known, Unknown}
 use Rattle.rules.specs.declared.Fault.{Fault}
 use Rattle.rules.specs.declared.Fault.the-variants.{NoFault, UnknownCode, OffScreen, TooManyParameters, TooFewParameters, BadValue, BadMap}
 use Rattle.rules.specs.Session.{View, withCursor}
 use Rattle.rules.specs.Effect.{Effect}
-use Rattle.rules.specs.Command.{commandOf, codeIn, parametersOf, valueFault, faultOf}
-use Rattle.rules.specs.Subcommand.{limited, erring, judged, looked, subcommand}
+use Rattle.rules.specs.Command.{Row, Listed, listed, unlisted, rowOf, codeIn, placeIn, valueFault, faultOf}
+use Rattle.rules.specs.Cursor.{limited}
+use Rattle.rules.specs.Subcommand.{erring, judged, looked, subcommand}
 -- the worked cases are checked first, so that a wrong rule is refused there
 use Rattle.rules.proofs.Shut.{shut-holds}
 
 -- the view after an ERROR: as before, but for the cursor that MOVE CURSOR has limited
 abbrev pub afterFault : View → Held → Fault → View
-afterFault v h OffScreen = withCursor v (limited v h)
+afterFault v h OffScreen = withCursor v (limited (v .frame) (placeIn h))
 afterFault v h NoFault = v
 afterFault v h UnknownCode = v
 afterFault v h TooManyParameters = v
@@ -40,32 +39,32 @@ module _ (v : View) (h : Held) where
   errs code f = record { code = code; fault = f; is = refl }
 
   -- a command whose code is known
-  pub errs-judged : (c : Command) (f : Fault) → (judged v c h f) .executed ≡ [] → Errs v h (judged v c h f)
+  pub errs-judged : (r : Row) (f : Fault) → (judged v r h f) .executed ≡ [] → Errs v h (judged v r h f)
   unfolding judged
-  errs-judged c NoFault e = absurd (omega (arith, ap length e))
-  errs-judged c OffScreen e = errs _ OffScreen
-  errs-judged c UnknownCode e = errs _ UnknownCode
-  errs-judged c TooManyParameters e = errs _ TooManyParameters
-  errs-judged c TooFewParameters e = errs _ TooFewParameters
-  errs-judged c BadValue e = errs _ BadValue
-  errs-judged c BadMap e = errs _ BadMap
+  errs-judged r NoFault e = absurd (omega (arith, ap length e))
+  errs-judged r OffScreen e = errs _ OffScreen
+  errs-judged r UnknownCode e = errs _ UnknownCode
+  errs-judged r TooManyParameters e = errs _ TooManyParameters
+  errs-judged r TooFewParameters e = errs _ TooFewParameters
+  errs-judged r BadValue e = errs _ BadValue
+  errs-judged r BadMap e = errs _ BadMap
 
-  -- a code, known or not
-  pub errs-looked : (c : Code) → (looked v c h) .executed ≡ [] → Errs v h (looked v c h)
+  -- a code, in the list or not
+  pub errs-looked : (l : Listed) → (looked v l h) .executed ≡ [] → Errs v h (looked v l h)
   unfolding looked
-  errs-looked Unknown e = errs _ UnknownCode
-  errs-looked (Known c) e = errs-judged c (faultOf v c h) e
+  errs-looked unlisted e = errs _ UnknownCode
+  errs-looked (listed r) e = errs-judged r _ e
 
   -- a subcommand
   pub errs-subcommand : (subcommand v h) .executed ≡ [] → Errs v h (subcommand v h)
   unfolding subcommand
   errs-subcommand =
       either (λ (s : Effect). s .executed ≡ [] → Errs v h s) (eqb (h .count) 0) (λ t e. errs 0 TooFewParameters)
-      (λ t. errs-looked (commandOf (codeIn h)))
+      (λ t. errs-looked (rowOf (codeIn h)))
 
 -- where no ERROR is drawn, the values draw none
-pub no-fault : (v : View) (c : Command) (h : Held) → faultOf v c h ≡ NoFault → valueFault v c h ≡ NoFault
+pub no-fault : (v : View) (c : Command) (n : ℕ) (h : Held) → faultOf v c n h ≡ NoFault → valueFault v c h ≡ NoFault
 unfolding faultOf
-no-fault v c h =
-    either (λ f. f ≡ NoFault → valueFault v c h ≡ NoFault) (ltb (h .count) (parametersOf c + 1)) (λ q e. cc)
-    (λ q. either (λ f. f ≡ NoFault → valueFault v c h ≡ NoFault) (ltb (parametersOf c + 1) (h .count)) (λ q e. cc) (λ q e. e))
+no-fault v c n h =
+    either (λ f. f ≡ NoFault → valueFault v c h ≡ NoFault) (ltb (h .count) (n + 1)) (λ q e. cc)
+    (λ q. either (λ f. f ≡ NoFault → valueFault v c h ≡ NoFault) (ltb (n + 1) (h .count)) (λ q e. cc) (λ q e. e))

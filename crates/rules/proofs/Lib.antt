@@ -10,8 +10,9 @@ pub mod Views
 pub mod Effects
 pub mod Sound
 pub mod Room
-pub mod Run
+pub mod Running
 pub mod Safe
+pub mod Rows
 pub mod SafeEffects
-pub mod Apart
+pub mod Noninterference
 pub mod Needed

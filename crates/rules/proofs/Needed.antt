@@ -17,9 +17,9 @@ use Rattle.rules.specs.Session.{State, allPrintable, screen, state}
 use Rattle.rules.specs.Effect.{Executed}
 use Rattle.rules.specs.Command.{codeIn, reachesPast}
 use Rattle.rules.specs.Call.{Call, host, key, Answered, answersOf, stateAfter, executedOf}
-use Rattle.rules.specs.Computing.{computing}
-use Rattle.rules.specs.Cases.{characters, starting}
-use Rattle.rules.specs.Apart.{noneReaches, Alike, Untold}
+use Rattle.rules.specs.cases.Computing.{computing}
+use Rattle.rules.specs.cases.Vocabulary.{characters, starting}
+use Rattle.rules.specs.Noninterference.{noneReaches, Alike, Untold}
 -- the worked cases are checked first, so that a wrong rule is refused there
 use Rattle.rules.proofs.Shut.{shut-holds}
 
@@ -78,7 +78,7 @@ spoken (a ∷ answers) = take (a .answer .written) (a .reply) ++ spoken answers
 -- the codes of those of the seven that are among the executed
 unfoldable pub past : List Executed → List ℕ
 past [] = []
-past (e ∷ es) = (if reachesPast (e .command) (e .held) then codeIn (e .held) ∷ [] else []) ++ past es
+past (e ∷ es) = (if reachesPast (e .row) (e .held) then codeIn (e .held) ∷ [] else []) ++ past es
 
 -- ---- the premises can be met
 

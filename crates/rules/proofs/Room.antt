@@ -14,8 +14,8 @@ use Rattle.rules.specs.Session.{State, replyRoom, freshFrame}
 use Rattle.rules.specs.Refusal.{isTaken}
 use Rattle.rules.specs.Operation.{Outcome, hostByte, running, unless, takenOf, hostRefusal, hostBytes, keyRan}
 use Rattle.rules.specs.Call.{Call, host, key, called}
-use Rattle.rules.specs.Computing.{computing}
-use Rattle.rules.specs.Cases.{starting}
+use Rattle.rules.specs.cases.Computing.{computing}
+use Rattle.rules.specs.cases.Vocabulary.{starting}
 use Rattle.rules.proofs.Calls.{lent, takenBy, ranBy, called-cases}
 use Rattle.rules.proofs.Effects.{keeps-happening, keeps-key}
 use Rattle.rules.proofs.Sound.{Sound, sound-byte, Accepted, sound-of}

@@ -15,7 +15,7 @@ use Rattle.screen.specs.Edits.{shifted, lies, onPart, erased, textOf}
 use Rattle.screen.proofs.WordLaws.{true-or-false, not-both, and-right, getD-within}
 use Rattle.screen.proofs.EditLaws.{shifted-length, erased-length, erased-cell, onPart-none, onPart-length, onPart-before, onPart-inside, onPart-after}
 use Rattle.rules.specs.Effect.{Change, put, erase, shift, changed, changedAll, Part, bytes, text, spelled, spelledAll}
-use Rattle.rules.specs.Apart.{Alike, Kept}
+use Rattle.rules.specs.Noninterference.{Alike, Kept}
 use Rattle.rules.proofs.All.{All}
 
 -- no cell of the range is protected
@@ -124,14 +124,14 @@ module _ (attrs : List ℕ) where
           ∙ rw (same-text a from end o) (sym (onPart-inside from end edit keeps d i 0 (rw (a .long) at t) lo hi)))
           (λ t. rw (onPart-none from end edit c t, onPart-none from end edit d (rw (a .long) at t)) (a .unprotected i h (o i lo hi))))
 
-  safe-changed : (ch : Change) → SafeChange attrs ch → SafeEdit attrs (changed attrs ch)
+  safe-changed : (ch : Change) → SafeChange attrs ch → SafeEdit attrs (λ x. changed x attrs ch)
   unfolding changed
   safe-changed (put cell v) s = safe-put cell v s
   safe-changed (erase suppressed from end) s = rw s (safe-erase from end)
   safe-changed (shift way from end by) s = safe-shift (shifted way by) (shifted-length way by) from end s
 
 pub still-twins : {attrs c₀ d₀ c d : List ℕ} (chs : List Change) → All (SafeChange attrs) chs → Twins attrs c₀ d₀ c d
-    → Twins attrs c₀ d₀ (changedAll attrs chs c) (changedAll attrs chs d)
+    → Twins attrs c₀ d₀ (changedAll c attrs chs) (changedAll d attrs chs)
 unfolding changedAll
 still-twins [] s w = w
 still-twins {attrs} (ch ∷ chs) s w =

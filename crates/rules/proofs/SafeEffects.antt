@@ -1,7 +1,7 @@
 -- Protection in effect and none of the seven executed: what a host byte does is safe, and what a key does that is not refused.
 -- Most cases only move the cursor or say bytes: there `search` finds each part of `SafeEffect` by itself.
 use mathlib.Core.Path.{_≡_, refl}
-use mathlib.Core.Bool.{Bool, true, false, _&&_}
+use mathlib.Core.Bool.{Bool, true, false, not, _&&_}
 use mathlib.Core.List.{List, [], _∷_}
 use Prim.Native.Nat.{ℕ, zero, suc}
 use native.Mathlib.Omega.{arith}
@@ -11,31 +11,30 @@ use Rattle.telnet.specs.declared.Verb.{Verb}
 use Rattle.telnet.specs.declared.Verb.the-variants.{Will, Wont, Do, Dont}
 use Rattle.telnet.specs.declared.Event.{Event}
 use Rattle.telnet.specs.declared.Event.the-variants.{Nothing, Data, Negotiation, Begin, Sub, End, EndBare, Lost}
+use Rattle.telnet.specs.Reader.{verbCode}
 use Rattle.screen.specs.Words.{if_then_else_}
 use Rattle.screen.specs.Attributes.{protectedAt}
 use Rattle.screen.specs.Fields.{fieldEnd, spanEnd}
 use Rattle.screen.proofs.WordLaws.{either, not-both, and-left}
 use Rattle.screen.proofs.FieldLaws.{start-le, span-open, field-open, opens-unprotected}
 use Rattle.rules.specs.declared.Held.{Held}
-use Rattle.rules.specs.declared.Area.{Area}
-use Rattle.rules.specs.declared.Area.the-variants.{WholeScreen, Unprotected, WholeLine, WholeField, RestOfScreen, RestOfLine, RestOfField}
-use Rattle.rules.specs.declared.Command.{Command}
-use Rattle.rules.specs.declared.Command.the-variants.{Facilities, MoveCursor, Step, Home, CharInsert, CharDelete, ReadCursor, ReverseTab, Transmit, Erase, FormatData, Repeat, SuppressProtection, Error}
-use Rattle.rules.specs.declared.Code.{Code}
-use Rattle.rules.specs.declared.Code.the-variants.{Known, Unknown}
+use Rattle.rules.specs.declared.Area.the-variants.{Unprotected}
 use Rattle.rules.specs.declared.Fault.{Fault}
 use Rattle.rules.specs.declared.Fault.the-variants.{NoFault, UnknownCode, OffScreen, TooManyParameters, TooFewParameters, BadValue, BadMap}
 use Rattle.rules.specs.declared.Key.{Key}
 use Rattle.rules.specs.declared.Key.the-variants.{Typed, Back, Tab, Send, Delete, Function, Meaningless}
 use Rattle.rules.specs.Session.{View, cursorCell}
+use Rattle.rules.specs.Number.{detOption}
+use Rattle.rules.specs.Command.{Row, rows, Listed, listed, unlisted, reaches, reachesPast}
 use Rattle.rules.specs.Effect.{Effect, Part}
-use Rattle.rules.specs.Telnet.{cursorGuarded, negotiated, hostCharacter, hostCharacters, hostData}
-use Rattle.rules.specs.Command.{sendsPast, erasesPast, reachesPast}
+use Rattle.rules.specs.Cursor.{cursorGuarded}
+use Rattle.rules.specs.Telnet.{negotiated, hostCharacter, hostCharacters, hostData}
 use Rattle.rules.specs.Subcommand.{fieldTexts, withoutFirst, transmitted, erasure, suppressing, obeyed, judged, looked, subcommand}
-use Rattle.rules.specs.Key.{guardAllows, pressed}
+use Rattle.rules.specs.Key.{needsOf, given, pressed}
 use Rattle.rules.specs.Operation.{happening}
-use Rattle.rules.specs.Apart.{noneReaches}
+use Rattle.rules.specs.Noninterference.{noneReaches}
 use Rattle.rules.proofs.All.{All, all-append}
+use Rattle.rules.proofs.Rows.{IfListed, in-list}
 use Rattle.rules.proofs.Safe.{Open, SafeChange, SafePart}
 
 -- the attribute bytes stay, protection stays in effect, and unprotected cells alone are changed and sent
@@ -107,74 +106,150 @@ module _ (v : View) (effect : v .frame .suppressed ≡ false) where
 
   -- ---- subcommands
 
-  safe-transmitted : (a : Area) → sendsPast a ≡ false → SafeEffect (v .attrs) (transmitted v a)
-  unfolding transmitted sendsPast
-  safe-transmitted WholeScreen r = not-both true refl r
-  safe-transmitted Unprotected r = search (without-first, safe-texts)
-  safe-transmitted WholeLine r = not-both true refl r
-  safe-transmitted WholeField r = search (unless-guarded, field-open)
-  safe-transmitted RestOfScreen r = not-both true refl r
-  safe-transmitted RestOfLine r = not-both true refl r
-  safe-transmitted RestOfField r = search (unless-guarded, open-rest)
+  -- what 21 and key 13 send
+  safe-fields : SafeEffect (v .attrs) (transmitted v Unprotected)
+  unfolding transmitted
+  safe-fields = search (without-first, safe-texts)
 
-  safe-erasure : (a : Area) → erasesPast a ≡ false → SafeEffect (v .attrs) (erasure v a)
-  unfolding erasure erasesPast
-  safe-erasure WholeScreen r = not-both true refl r
-  safe-erasure Unprotected r = search
-  safe-erasure WholeLine r = search
-  safe-erasure WholeField r = search
-  safe-erasure RestOfScreen r = search
-  safe-erasure RestOfLine r = search
-  safe-erasure RestOfField r = search
-
-  safe-suppressing : (n : ℕ) → eqb n 253 ≡ false → SafeEffect (v .attrs) (suppressing v n)
+  safe-suppressing : (n : ℕ) → eqb n (verbCode Do) ≡ false → SafeEffect (v .attrs) (suppressing v n)
   unfolding suppressing
   safe-suppressing n r = rw (r, effect) (search (either (SafeEffect (v .attrs))))
 
-  safe-obeyed : (c : Command) (h : Held) → reachesPast c h ≡ false → SafeEffect (v .attrs) (obeyed v c h)
-  unfolding obeyed reachesPast
-  safe-obeyed (Facilities facility) h r = search
-  safe-obeyed MoveCursor h r = search
-  safe-obeyed (Step direction) h r = search
-  safe-obeyed Home h r = search
-  safe-obeyed CharInsert h r = search (unless-guarded, open-span)
-  safe-obeyed CharDelete h r = search (unless-guarded, open-span)
-  safe-obeyed ReadCursor h r = search
-  safe-obeyed ReverseTab h r = search
-  safe-obeyed (Transmit area) h r = safe-transmitted area r
-  safe-obeyed (Erase area) h r = safe-erasure area r
-  safe-obeyed FormatData h r = not-both true refl r
-  safe-obeyed Repeat h r = safe-characters _ v effect _
-  safe-obeyed SuppressProtection h r = safe-suppressing _ r
-  safe-obeyed Error h r = search
+  -- a row of the list: executed with bytes that do not reach past protection, its command is safe
+  abbrev SafeRow : Row → Type 0
+  SafeRow r = (h : Held) → reachesPast r h ≡ false → SafeEffect (v .attrs) (obeyed v (r .command) h)
 
-  safe-judged : (c : Command) (h : Held) (f : Fault) → Allowed (v .attrs) (judged v c h f)
+  -- the rows that always reach past
+  past : {A : Type 0} → true ≡ false → A
+  past r = not-both true refl r
+
+  safe-rows : All SafeRow rows
+  unfolding rows reaches obeyed transmitted erasure
+  safe-rows =
+      -- 1, 2, 3, 4, 5
+      (
+        λ h r. search,
+        (
+          λ h r. search,
+          (
+            λ h r. search,
+            (
+              λ h r. search,
+              (
+                λ h r. search,
+                -- 8, 9, 10, 11, 12
+                (
+                  λ h r. search,
+                  (
+                    λ h r. search,
+                    (
+                      λ h r. search,
+                      (
+                        λ h r. search,
+                        (
+                          λ h r. search,
+                          -- 15, 16
+                          (
+                            λ h r. search (unless-guarded, open-span),
+                            (
+                              λ h r. search (unless-guarded, open-span),
+                              -- 17, 19
+                              (
+                                λ h r. search,
+                                (
+                                  λ h r. search,
+                                  -- 20, 21, 22
+                                  (
+                                    λ h. past,
+                                    (
+                                      λ h r. safe-fields,
+                                      (
+                                        λ h. past,
+                                        -- 23
+                                        (
+                                          λ h r. search (unless-guarded, field-open),
+                                          -- 24, 25
+                                          (
+                                            λ h. past,
+                                            (
+                                              λ h. past,
+                                              -- 26
+                                              (
+                                                λ h r. search (unless-guarded, open-rest),
+                                                -- 29, 30, 31
+                                                (
+                                                  λ h. past,
+                                                  (
+                                                    λ h r. search,
+                                                    (
+                                                      λ h r. search,
+                                                      -- 32, 33, 34, 35
+                                                      (
+                                                        λ h r. search,
+                                                        (
+                                                          λ h r. search,
+                                                          (
+                                                            λ h r. search,
+                                                            (
+                                                              λ h r. search,
+                                                              -- 36, 37, 38, 41
+                                                              (λ h. past, (λ h r. safe-characters _ v effect _, (λ h. safe-suppressing _, (λ h r. search, tt)))),
+                                                            ),
+                                                          ),
+                                                        ),
+                                                      ),
+                                                    ),
+                                                  ),
+                                                ),
+                                              ),
+                                            ),
+                                          ),
+                                        ),
+                                      ),
+                                    ),
+                                  ),
+                                ),
+                              ),
+                            ),
+                          ),
+                        ),
+                      ),
+                    ),
+                  ),
+                ),
+              ),
+            ),
+          ),
+        ),
+      )
+
+  safe-judged : (r : Row) → SafeRow r → (h : Held) (f : Fault) → Allowed (v .attrs) (judged v r h f)
   unfolding judged noneReaches
-  safe-judged c h NoFault = λ x. let e = safe-obeyed c h (not-true _ (and-left _ _ x)) in search
-  safe-judged c h UnknownCode = search
-  safe-judged c h OffScreen = search
-  safe-judged c h TooManyParameters = search
-  safe-judged c h TooFewParameters = search
-  safe-judged c h BadValue = search
-  safe-judged c h BadMap = search
+  safe-judged r safe h NoFault = λ x. let e = safe h (not-true _ (and-left _ _ x)) in search
+  safe-judged r safe h UnknownCode = search
+  safe-judged r safe h OffScreen = search
+  safe-judged r safe h TooManyParameters = search
+  safe-judged r safe h TooFewParameters = search
+  safe-judged r safe h BadValue = search
+  safe-judged r safe h BadMap = search
 
-  safe-looked : (c : Code) (h : Held) → Allowed (v .attrs) (looked v c h)
+  safe-looked : (l : Listed) → IfListed SafeRow l → (h : Held) → Allowed (v .attrs) (looked v l h)
   unfolding looked
-  safe-looked Unknown h = search
-  safe-looked (Known c) h = safe-judged c h _
+  safe-looked unlisted safe h = search
+  safe-looked (listed r) safe h = safe-judged r safe h _
 
   safe-subcommand : (h : Held) → Allowed (v .attrs) (subcommand v h)
   unfolding subcommand
-  safe-subcommand h = search (either (Allowed (v .attrs)), safe-looked)
+  safe-subcommand h = either (Allowed (v .attrs)) (eqb (h .count) 0) (λ q. search) (λ q. safe-looked _ (in-list SafeRow safe-rows _) h)
 
   -- ---- keys
 
-  pub safe-key : (k : Key) → guardAllows v k ≡ true → SafeEffect (v .attrs) (pressed v k)
-  unfolding pressed guardAllows sendsPast
+  pub safe-key : (k : Key) → given (needsOf k .unguarded) (not (cursorGuarded v)) ≡ true → SafeEffect (v .attrs) (pressed v k)
+  unfolding pressed needsOf
   safe-key (Typed c) g = let u = open-cursor v effect (not-true _ g) in search
   safe-key Back g = search
   safe-key Tab g = search
-  safe-key Send g = safe-transmitted Unprotected refl
+  safe-key Send g = safe-fields
   safe-key Delete g = search (unless-guarded, open-span)
   safe-key (Function n) g = search
   safe-key Meaningless g = search
@@ -188,6 +263,6 @@ safe-happening v effect h (Data b) = search safe-data
 safe-happening v effect h (Negotiation verb option) = search safe-negotiated
 safe-happening v effect h (Begin option) = search
 safe-happening v effect h (Sub option b) = search
-safe-happening v effect h (End option) = either (Allowed (v .attrs)) (eqb option 20 && v .frame .det) (λ q. safe-subcommand v effect h) (λ q. search)
+safe-happening v effect h (End option) = either (Allowed (v .attrs)) (eqb option detOption && v .frame .det) (λ q. safe-subcommand v effect h) (λ q. search)
 safe-happening v effect h EndBare = search
 safe-happening v effect h Lost = search

@@ -9,8 +9,8 @@ use Rattle.telnet.specs.declared.Phase.the-variants.{Rest}
 use Rattle.rules.specs.declared.Held.{Held}
 use Rattle.rules.specs.Session.{State, noneHeld, session, switched, state}
 use Rattle.rules.specs.Call.{host, called}
-use Rattle.rules.specs.Computing.{computing}
-use Rattle.rules.specs.Cases.{Case, Turn, Seen, characters, see, starting, hostTurn, keyTurn, seenIn, observed, expected}
+use Rattle.rules.specs.cases.Computing.{computing}
+use Rattle.rules.specs.cases.Vocabulary.{Case, Turn, Seen, characters, see, starting, hostTurn, keyTurn, seenIn, observed, expected}
 -- the worked forms are checked first
 use Rattle.rules.proofs.Worked.{worked}
 

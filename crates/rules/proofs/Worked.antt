@@ -4,8 +4,8 @@ use mathlib.Core.Bool.{false}
 use mathlib.Core.List.{List, [], _∷_, _++_}
 use Prim.Native.Nat.{ℕ}
 use lib.ListN.{replicate}
-use Rattle.rules.specs.Computing.{computing}
-use Rattle.rules.specs.Cases.{Case, Turn, Seen, characters, see, starting, hostTurn, keyTurn, seenIn, observed, expected}
+use Rattle.rules.specs.cases.Computing.{computing}
+use Rattle.rules.specs.cases.Vocabulary.{Case, Turn, Seen, characters, see, starting, hostTurn, keyTurn, seenIn, observed, expected}
 
 -- Form F: 8 by 2, "WT 70 #4" over "UNIT mg "; "70 " and "mg " have attribute 0, the rest 8. DET is on. The reply room is 114.
 abbrev formF : ℕ → ℕ → List Turn → Case

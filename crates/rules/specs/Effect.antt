@@ -8,8 +8,9 @@ use Rattle.telnet.specs.Writer.{subnegotiation}
 use Rattle.screen.specs.declared.edit.Shift.{Shift}
 use Rattle.screen.specs.Edits.{shifted, onPart, erased, textOf}
 use Rattle.rules.specs.declared.Held.{Held}
-use Rattle.rules.specs.declared.Command.{Command}
 use Rattle.rules.specs.Session.{View}
+use Rattle.rules.specs.Number.{detOption}
+use Rattle.rules.specs.Command.{Row}
 
 -- A change of the characters. A range of cells is given by its first and the one after its last.
 pub data Change : Type 0 where
@@ -17,14 +18,15 @@ pub data Change : Type 0 where
   erase : Bool → ℕ → ℕ → Change  -- in a range: spaces in cells not guarded, protection suppressed or not
   shift : Shift → ℕ → ℕ → ℕ → Change  -- in a range: insert or delete, by so many cells
 
-unfoldable pub changed : List ℕ → Change → List ℕ → List ℕ
-changed attrs (put cell c) chars = set chars cell c
-changed attrs (erase suppressed from end) chars = erased suppressed attrs from end chars
-changed attrs (shift s from end by) chars = onPart from end (shifted s by) chars
+-- the characters after a change, and after one change after the other
+unfoldable pub changed : List ℕ → List ℕ → Change → List ℕ
+changed chars attrs (put cell c) = set chars cell c
+changed chars attrs (erase suppressed from end) = erased suppressed attrs from end chars
+changed chars attrs (shift s from end by) = onPart from end (shifted s by) chars
 
-unfoldable pub changedAll : List ℕ → List Change → List ℕ → List ℕ
-changedAll attrs [] chars = chars
-changedAll attrs (c ∷ cs) chars = changedAll attrs cs (changed attrs c chars)
+unfoldable pub changedAll : List ℕ → List ℕ → List Change → List ℕ
+changedAll chars attrs [] = chars
+changedAll chars attrs (c ∷ cs) = changedAll (changed chars attrs c) attrs cs
 
 -- What a reply is made of: bytes, or the text of a range of cells.
 pub data Part : Type 0 where
@@ -41,11 +43,11 @@ spelledAll chars (p ∷ ps) = spelled chars p ++ spelledAll chars ps
 
 -- IAC SB 20 .. IAC SE
 abbrev pub message : List ℕ → Part
-message payload = bytes (subnegotiation 20 payload)
+message payload = bytes (subnegotiation detOption payload)
 
--- a command that was executed, with the bytes that it came in
+-- a command that was executed: its row in the list, and the bytes that it came in
 pub record Executed : Type 0 where
-  pub command : Command
+  pub row : Row
   pub held : Held
 
 -- The view afterwards, the changes in order, one reply, and the commands executed. The replies read the characters as they were.

@@ -1,23 +1,23 @@
 -- Document 01, "Keys".
 use mathlib.Core.Bool.{Bool, true, false, not, _||_}
 use mathlib.Core.List.{List, [], _∷_}
-use Prim.Native.Nat.{ℕ, _+_, _-_}
+use Prim.Native.Nat.{ℕ, _-_}
 use lib.Dec.{eqb}
 use Rattle.screen.specs.declared.edit.Shift.the-variants.{Deletion}
 use Rattle.screen.specs.Words.{if_then_else_, between}
-use Rattle.screen.specs.Attributes.{attributeAt, guardedAt}
-use Rattle.screen.specs.Fields.{opensAt, firstFrom, lastBefore}
-use Rattle.screen.specs.Scans.{nextOpen}
+use Rattle.screen.specs.Attributes.{attributeAt}
 use Rattle.screen.specs.Classes.{takes}
+use Rattle.rules.specs.declared.Destination.the-variants.{NextField, NextOpen, PreviousOpen}
 use Rattle.rules.specs.declared.Area.the-variants.{Unprotected}
 use Rattle.rules.specs.declared.Refusal.the-variants.{Guarded, WrongClass, DetOff, NoMeaning}
 use Rattle.rules.specs.declared.Key.{Key}
 use Rattle.rules.specs.declared.Key.the-variants.{Typed, Back, Tab, Send, Delete, Function, Meaningless}
 use Rattle.rules.specs.Session.{View, printable, cursorCell}
+use Rattle.rules.specs.Number.{fn}
 use Rattle.rules.specs.Refusal.{Test, test}
 use Rattle.rules.specs.Effect.{Effect, put, message, changing, saying, quiet}
-use Rattle.rules.specs.Telnet.{cursorGuarded}
-use Rattle.rules.specs.Subcommand.{movedTo, transmitted, shifting}
+use Rattle.rules.specs.Cursor.{cursorGuarded, sentTo}
+use Rattle.rules.specs.Subcommand.{transmitted, shifting}
 
 -- what a key means; 128 to 143 are the function keys, numbered from 1
 unfoldable pub keyOf : ℕ → Key
@@ -32,74 +32,60 @@ keyOf k =
 
 -- ---- refusals 9, 8, 6 and 7, in this order
 
-unfoldable pub hasMeaning : Key → Bool
-hasMeaning (Typed c) = true
-hasMeaning Back = true
-hasMeaning Tab = true
-hasMeaning Send = true
-hasMeaning Delete = true
-hasMeaning (Function n) = true
-hasMeaning Meaningless = false
+-- what a key asks for: a meaning, DET on, a cell that is not guarded, a cell whose attribute byte takes it
+pub record Needs : Type 0 where
+  pub meaning : Bool
+  pub det : Bool
+  pub unguarded : Bool
+  pub class : ℕ → Bool
 
--- a send or function key wants DET on
-unfoldable pub detAllows : View → Key → Bool
-detAllows v (Typed c) = true
-detAllows v Back = true
-detAllows v Tab = true
-detAllows v Send = v .frame .det
-detAllows v Delete = true
-detAllows v (Function n) = v .frame .det
-detAllows v Meaningless = true
+-- a cell of any class
+abbrev pub any : ℕ → Bool
+any attr = true
 
--- a typed character or the delete key wants a cell that is not guarded
-unfoldable pub guardAllows : View → Key → Bool
-guardAllows v (Typed c) = not (cursorGuarded v)
-guardAllows v Back = true
-guardAllows v Tab = true
-guardAllows v Send = true
-guardAllows v Delete = not (cursorGuarded v)
-guardAllows v (Function n) = true
-guardAllows v Meaningless = true
+-- a key that asks for nothing, or for DET alone
+abbrev pub anywhere : Bool → Needs
+anywhere det = record { meaning = true; det = det; unguarded = false; class = any }
 
--- a typed character is of the cell's class; not tested while suppressed
-unfoldable pub classAllows : View → Key → Bool
-classAllows v (Typed c) = v .frame .suppressed || takes (attributeAt (v .attrs) (cursorCell v)) c
-classAllows v Back = true
-classAllows v Tab = true
-classAllows v Send = true
-classAllows v Delete = true
-classAllows v (Function n) = true
-classAllows v Meaningless = true
+unfoldable pub needsOf : Key → Needs
+needsOf (Typed c) = record { meaning = true; det = false; unguarded = true; class = λ attr. takes attr c }
+needsOf Back = anywhere false
+needsOf Tab = anywhere false
+needsOf Send = anywhere true
+needsOf Delete = record { meaning = true; det = false; unguarded = true; class = any }
+needsOf (Function n) = anywhere true
+needsOf Meaningless = record { meaning = false; det = false; unguarded = false; class = any }
+
+-- what is not asked for is not missing
+abbrev pub given : Bool → Bool → Bool
+given asked there = not asked || there
+
+-- class is not tested while suppressed
+abbrev pub classAllows : View → (ℕ → Bool) → Bool
+classAllows v class = v .frame .suppressed || class (attributeAt (v .attrs) (cursorCell v))
 
 unfoldable pub keyTests : View → Key → List Test
 keyTests v k =
-    test (hasMeaning k) NoMeaning
-    ∷ test (detAllows v k) DetOff
-    ∷ test (guardAllows v k) Guarded
-    ∷ test (classAllows v k) WrongClass
+    let needs = needsOf k in
+    test (needs .meaning) NoMeaning
+    ∷ test (given (needs .det) (v .frame .det)) DetOff
+    ∷ test (given (needs .unguarded) (not (cursorGuarded v))) Guarded
+    ∷ test (classAllows v (needs .class)) WrongClass
     ∷ []
 
 -- ---- what each does
 
--- 8: back to the nearest open cell, if there is one
-unfoldable pub previousOpen : View → ℕ
-previousOpen v = lastBefore (λ i. not (guardedAt (v .frame .suppressed) (v .attrs) i)) (v .attrs) (cursorCell v) (cursorCell v)
-
--- 9: on to the next unprotected field, or round to the first, if there is any
-unfoldable pub nextField : View → ℕ
-nextField v =
-    firstFrom (opensAt (v .attrs)) (v .attrs) (cursorCell v + 1) (firstFrom (opensAt (v .attrs)) (v .attrs) 0 (cursorCell v))
-
 unfoldable pub pressed : View → Key → Effect
 -- a character that is typed moves the cursor on to an open cell
-pressed v (Typed c) = changing (movedTo v (nextOpen (v .frame .suppressed) (v .attrs) (cursorCell v))) (put (cursorCell v) c ∷ [])
--- 8, 9
-pressed v Back = quiet (movedTo v (previousOpen v))
-pressed v Tab = quiet (movedTo v (nextField v))
+pressed v (Typed c) = changing (sentTo v NextOpen) (put (cursorCell v) c ∷ [])
+-- 8: back to an open cell
+pressed v Back = quiet (sentTo v PreviousOpen)
+-- 9: on to an unprotected field
+pressed v Tab = quiet (sentTo v NextField)
 -- 13: as subcommand 21
 pressed v Send = transmitted v Unprotected
 -- 127: as subcommand 16
 pressed v Delete = shifting v Deletion
 -- 128 to 143: FN (40) with its number
-pressed v (Function n) = saying v (message (40 ∷ n ∷ []) ∷ [])
+pressed v (Function n) = saying v (message (fn ∷ n ∷ []) ∷ [])
 pressed v Meaningless = quiet v

@@ -14,6 +14,7 @@ use Rattle.rules.specs.declared.Refusal.{Refusal}
 use Rattle.rules.specs.declared.Refusal.the-variants.{Taken}
 use Rattle.rules.specs.declared.Answer.{Answer}
 use Rattle.rules.specs.Session.{Screen, State, View, cells, replyRoom, session, freshFrame, fresh, screen, state, viewOf}
+use Rattle.rules.specs.Number.{detOption}
 use Rattle.rules.specs.Refusal.{isTaken, verdict, sizeTests, stateTests}
 use Rattle.rules.specs.Effect.{Effect, Executed, changedAll, spelledAll, quiet}
 use Rattle.rules.specs.Telnet.{heldAfter, negotiated, hostData}
@@ -33,7 +34,7 @@ abbrev pub applied : State → Reader → Effect → Ran
 applied s r e =
     let b = s .screen in
     record {
-      state = state (session (e .view .frame) r) (screen (changedAll (b .attrs) (e .changes) (b .chars)) (e .view .attrs));
+      state = state (session (e .view .frame) r) (screen (changedAll (b .chars) (b .attrs) (e .changes)) (e .view .attrs));
       replies = spelledAll (b .chars) (e .reply);
       executed = e .executed;
     }
@@ -48,7 +49,7 @@ happening v h (Data b) = hostData v b
 happening v h (Negotiation verb option) = negotiated v verb option
 happening v h (Begin option) = quiet v
 happening v h (Sub option b) = quiet v
-happening v h (End option) = if eqb option 20 && v .frame .det then subcommand v h else quiet v
+happening v h (End option) = if eqb option detOption && v .frame .det then subcommand v h else quiet v
 happening v h EndBare = quiet v
 happening v h Lost = quiet v
 

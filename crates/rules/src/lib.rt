@@ -1,6 +1,7 @@
 // The types of the terminal: the session, what its operations answer, commands and keys by meaning.
 // The rules of document 01 are definitions over them, in specs/; this crate has no code.
 use screen::cell::Place;
+use screen::edit::Shift;
 use telnet::Phase;
 
 // The first bytes of a subnegotiation after its option byte, and how many they are: the count stops at 6.
@@ -60,11 +61,23 @@ pub enum Facility {
     Formatting,
 }
 
-pub enum Direction {
+// Where the cursor goes.
+pub enum Destination {
+    // one step, none at the edge
     Up,
     Down,
     Left,
     Right,
+    Corner,
+    LineStart,
+    NextLine,
+    NextCell,
+    Home,
+    ReverseTab,
+    FirstField,
+    NextField,
+    NextOpen,
+    PreviousOpen,
 }
 
 // What a transmission or an erasure covers.
@@ -81,13 +94,12 @@ pub enum Area {
 // A subcommand by its meaning.
 pub enum Command {
     Facilities(Facility),
+    // to the place that its parameters name
     MoveCursor,
-    Step(Direction),
-    Home,
-    CharInsert,
-    CharDelete,
+    Move(Destination),
+    // char insert and char delete
+    CharShift(Shift),
     ReadCursor,
-    ReverseTab,
     Transmit(Area),
     Erase(Area),
     FormatData,
@@ -96,9 +108,9 @@ pub enum Command {
     Error,
 }
 
-// What a subcommand's code means.
+// What the list of subcommands says of a code: what it means, and how many parameters it takes.
 pub enum Code {
-    Known(Command),
+    Known { command: Command, parameters: u8 },
     Unknown,
 }
 

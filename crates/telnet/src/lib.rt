@@ -4,7 +4,16 @@
 ghost use mathlib.Core.Path.{_≡_};
 ghost use Rattle.telnet.specs.Reader.{afterIac, thrownAway, opening, openingIac, inside, insideIac, readOf};
 
+pub mod code;
 pub mod run;
+
+use code::DO;
+use code::DONT;
+use code::IAC;
+use code::SB;
+use code::SE;
+use code::WILL;
+use code::WONT;
 
 // The four commands that take an option byte.
 pub enum Verb {
@@ -61,27 +70,27 @@ fn command(byte: u8) -> Step
     ensures { λ r. ⌜ r ≡ afterIac byte ⌝ }
 {
     match byte {
-        255 => Step {
+        IAC => Step {
             phase: Phase::Rest,
-            event: Event::Data(255),
+            event: Event::Data(IAC),
         },
-        250 => Step {
+        SB => Step {
             phase: Phase::Opening,
             event: Event::Nothing,
         },
-        251 => Step {
+        WILL => Step {
             phase: Phase::Negotiating(Verb::Will),
             event: Event::Nothing,
         },
-        252 => Step {
+        WONT => Step {
             phase: Phase::Negotiating(Verb::Wont),
             event: Event::Nothing,
         },
-        253 => Step {
+        DO => Step {
             phase: Phase::Negotiating(Verb::Do),
             event: Event::Nothing,
         },
-        254 => Step {
+        DONT => Step {
             phase: Phase::Negotiating(Verb::Dont),
             event: Event::Nothing,
         },
@@ -108,7 +117,7 @@ fn throw_away(byte: u8) -> Step
 fn open_sub(byte: u8) -> Step
     ensures { λ r. ⌜ r ≡ opening byte ⌝ }
 {
-    if byte == 255 {
+    if byte == IAC {
         Step {
             phase: Phase::OpeningIac,
             event: Event::Nothing,
@@ -126,11 +135,11 @@ fn open_sub_iac(byte: u8) -> Step
     ensures { λ r. ⌜ r ≡ openingIac byte ⌝ }
 {
     match byte {
-        255 => Step {
-            phase: Phase::Inside(255),
-            event: Event::Begin(255),
+        IAC => Step {
+            phase: Phase::Inside(IAC),
+            event: Event::Begin(IAC),
         },
-        240 => Step {
+        SE => Step {
             phase: Phase::Rest,
             event: Event::EndBare,
         },
@@ -142,7 +151,7 @@ fn open_sub_iac(byte: u8) -> Step
 fn in_sub(option: u8, byte: u8) -> Step
     ensures { λ r. ⌜ r ≡ inside option byte ⌝ }
 {
-    if byte == 255 {
+    if byte == IAC {
         Step {
             phase: Phase::InsideIac(option),
             event: Event::Nothing,
@@ -163,14 +172,14 @@ fn in_sub_iac(option: u8, byte: u8) -> Step
     ensures { λ r. ⌜ r ≡ insideIac option byte ⌝ }
 {
     match byte {
-        255 => Step {
+        IAC => Step {
             phase: Phase::Inside(option),
             event: Event::Sub {
                 option: option,
-                byte: 255,
+                byte: IAC,
             },
         },
-        240 => Step {
+        SE => Step {
             phase: Phase::Rest,
             event: Event::End(option),
         },
@@ -182,7 +191,7 @@ fn in_sub_iac(option: u8, byte: u8) -> Step
 fn at_rest(byte: u8) -> Step
     ensures { λ r. ⌜ r ≡ readOf Phase.Rest byte ⌝ }
 {
-    if byte == 255 {
+    if byte == IAC {
         Step {
             phase: Phase::Iac,
             event: Event::Nothing,

@@ -2,6 +2,7 @@
 // whole slice need not ask the reader about each.
 ghost use mathlib.Core.Path.{_≡_};
 ghost use Rattle.telnet.specs.Stream.{dataEnd};
+use crate::code::IAC;
 
 // The first IAC from `from` on; none, the input's end; where `from` is past the end, `from`.
 pub fn data_end(input: &[u8], from: usize) -> usize
@@ -9,7 +10,7 @@ pub fn data_end(input: &[u8], from: usize) -> usize
 {
     let mut at = from;
     while at < input.len() {
-        if input[at] == 255 {
+        if input[at] == IAC {
             return at;
         }
         at += 1;

@@ -8,8 +8,5 @@ pub limited-spec : {M : Type 1} → statement M
 limited-spec =
     tie.close
     (tie.spec
-    (λ c κs. search needs)
-    (λ c κs. search needs)
-    (λ c κs. search needs)
-    (λ c κs. search needs)
-    (λ c. c .moved .ensures ∙ rw (c .before .limit2 .ensures, c .before .before .limit .ensures, c .before .before .before .place-parameters .ensures)))
+    (λ c κs. search needs) (λ c κs. search needs) (λ c κs. search needs) (λ c κs. search needs) (λ c κs. search needs)
+    (λ c. c .moved .ensures ∙ rw (c .before .at .ensures, c .before .before .limit2 .ensures, c .before .before .before .limit .ensures, c .before .before .before .before .place-parameters .ensures)))

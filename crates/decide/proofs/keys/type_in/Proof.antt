@@ -1,18 +1,17 @@
 -- `type_in` meets its contract: a character that is not refused is written.
 use borrow.Author.Needs.{needs}
 use Rattle.rules.specs.Key.{pressed}
-use Rattle.decide.specs.Writing.{placeAfter}
 use Rattle.decide.proofs.DecideLaws.{decides}
 use Rattle.decide.proofs.WriteLaws.{typed}
 use Rattle.decide.proofs.keys.type_in.Statement.{statement}
 use Rattle.decide.proofs.keys.type_in.Tie as tie
 
 pub type-in-spec : {M : Type 1} → statement M
-unfolding pressed placeAfter
+unfolding pressed
 type-in-spec =
     tie.close
     (tie.spec
     (λ c κs. search needs)
     (λ c κs. search needs)
     (λ c κs. search needs)
-    (λ c. decides (c .changing .ensures) tt (rw (typed (c .before .before .write .ensures) (c .before .before .before .before .pre .1), c .before .cursor-cell .ensures))))
+    (λ c. decides (c .editing .ensures) tt (rw (typed (c .before .before .write .ensures) (c .before .before .before .before .pre .1), c .before .cursor-cell .ensures))))

@@ -1,65 +1,64 @@
 -- `obey` meets its contract: one case for each command.
 use mathlib.Core.Path.{refl}
-use borrow.Author.Needs.{needs}
-use Rattle.rules.specs.Subcommand.{homeCell, backTabCell, obeyed}
+use Rattle.rules.specs.Subcommand.{obeyed}
+use Rattle.decide.proofs.DecideLaws.{decides}
 use Rattle.decide.proofs.ObeyLaws.{repeated}
+use borrow.Author.Needs.{needs}
 use Rattle.decide.proofs.obey.obey.Statement.{statement}
 use Rattle.decide.proofs.obey.obey.Tie as tie
 
+facilities : tie.Need-returns
+unfolding obeyed
+facilities c = rw (c .before .before .command .given .1) (c .facilities .ensures _)
+
+move-cursor : tie.Need-returns-2
+unfolding obeyed
+move-cursor c = rw (c .before .before .enum-told .given .1, c .quiet .ensures, c .before .limited .ensures) (record { meaning = refl; sendable = tt })
+
+move : tie.Need-returns-3
+unfolding obeyed
+move c = rw (c .before .before .before .command2 .given .1, c .quiet2 .ensures, c .before .sent-to .ensures) (record { meaning = refl; sendable = tt })
+
+char-shift : tie.Need-returns-4
+unfolding obeyed
+char-shift c = rw (c .before .before .command3 .given .1) (c .char-shift .ensures)
+
+read-cursor : tie.Need-returns-5
+unfolding obeyed
+read-cursor c = rw (c .before .enum-told2 .given .1, c .read-cursor .ensures) (record { meaning = refl; sendable = tt })
+
+transmit : tie.Need-returns-6
+unfolding obeyed
+transmit c = rw (c .before .before .command4 .given .1) (c .transmit .ensures)
+
+erase : tie.Need-returns-7
+unfolding obeyed
+erase c = rw (c .before .before .command5 .given .1) (c .erase .ensures)
+
+format-data : tie.Need-returns-8
+unfolding obeyed
+format-data c = rw (c .before .enum-told3 .given .1) (c .format-data .ensures _)
+
+repeat : tie.Need-returns-9
+unfolding obeyed
+repeat c = rw (c .before .before .before .enum-told4 .given .1, c .editing .ensures, c .before .second-parameter .ensures, c .before .before .first-parameter .ensures) repeated
+
+suppress-protection : tie.Need-returns-10
+unfolding obeyed
+suppress-protection c = rw (c .before .before .enum-told5 .given .1, ← c .before .first-parameter2 .ensures) (c .suppress .ensures _)
+
+error : tie.Need-returns-11
+unfolding obeyed
+error c = rw (c .before .enum-told6 .given .1, c .quiet3 .ensures) (record { meaning = refl; sendable = tt })
+
 pub obey-spec : {M : Type 1} → statement M
-unfolding homeCell backTabCell obeyed
 obey-spec =
     tie.close
     (tie.spec
-    (λ c. search needs)
-    (λ c κs. search needs)
-    (λ c. search needs)
-    (λ c κs. search needs)
-    (λ c κs. search needs)
-    (λ c. search needs)
-    (λ c κs. search needs)
-    (λ c κs. search needs)
-    (λ c κs. search needs)
-    (λ c. search needs)
-    (λ c κs. search needs)
-    (λ c κs. search needs)
-    (λ c. search needs)
-    (λ c κs. search needs)
-    (λ c. search needs)
-    (λ c κs. search needs)
-    (λ c. search needs)
-    (λ c κs. search needs)
-    (λ c. search needs)
-    (λ c κs. search needs)
-    (λ c κs. search needs)
-    (λ c. search needs)
-    (λ c κs. search needs)
-    (λ c. search needs)
-    (λ c κs. search needs)
-    (λ c. search needs)
-    (λ c κs. search needs)
-    (λ c. search needs)
-    (λ c κs. search needs)
-    (λ c κs. search needs)
-    (λ c κs. search needs)
-    (λ c. search needs)
-    (λ c κs. search needs)
-    (λ c κs. search needs)
-    (λ c. search needs)
-    (λ c κs. search needs)
-    (λ c. rw (c .before .before .command .given .1) (c .facilities .ensures _))
-    (λ c. rw (c .before .before .enum-told .given .1, c .quiet .ensures, c .before .limited .ensures) (record { meaning = refl; sendable = tt }))
-    (λ c. let a = c .before .before .before .before .before .before .before .args in
-    rw (c .before .before .before .before .command2 .given .1, c .quiet2 .ensures, c .before .moved .ensures, c .before .before .step .ensures)
-    (record { meaning = refl; sendable = tt }))
-    (λ c. rw (c .before .before .enum-told2 .given .1, c .quiet3 .ensures, c .before .home .ensures) (record { meaning = refl; sendable = tt }))
-    (λ c. rw (c .before .enum-told3 .given .1) (c .char-shift .ensures))
-    (λ c. rw (c .before .enum-told4 .given .1) (c .char-shift2 .ensures))
-    (λ c. rw (c .before .enum-told5 .given .1, c .read-cursor .ensures) (record { meaning = refl; sendable = tt }))
-    (λ c. rw (c .before .before .enum-told6 .given .1, c .quiet4 .ensures, c .before .reverse-tab .ensures) (record { meaning = refl; sendable = tt }))
-    (λ c. rw (c .before .before .command3 .given .1) (c .transmit .ensures))
-    (λ c. rw (c .before .before .command4 .given .1) (c .erase .ensures))
-    (λ c. rw (c .before .enum-told7 .given .1) (c .format-data .ensures _))
-    (λ c. rw (c .before .before .before .enum-told8 .given .1, c .changing .ensures, c .before .second-parameter .ensures, c .before .before .first-parameter .ensures) repeated)
-    (λ c. rw (c .before .before .enum-told9 .given .1, ← c .before .first-parameter2 .ensures) (c .suppress .ensures _))
-    (λ c. rw (c .before .enum-told10 .given .1, c .quiet5 .ensures) (record { meaning = refl; sendable = tt })))
+    (λ c. search needs) (λ c κs. search needs) (λ c. search needs) (λ c κs. search needs) (λ c κs. search needs)
+    (λ c. search needs) (λ c κs. search needs) (λ c κs. search needs) (λ c. search needs) (λ c κs. search needs)
+    (λ c. search needs) (λ c κs. search needs) (λ c. search needs) (λ c κs. search needs) (λ c. search needs)
+    (λ c κs. search needs) (λ c. search needs) (λ c κs. search needs) (λ c. search needs) (λ c κs. search needs)
+    (λ c κs. search needs) (λ c κs. search needs) (λ c. search needs) (λ c κs. search needs) (λ c κs. search needs)
+    (λ c. search needs) (λ c κs. search needs) facilities move-cursor move char-shift read-cursor transmit erase format-data
+    repeat suppress-protection error)

@@ -1,27 +1,30 @@
 -- `obey_held` meets its contract: no code, a known one, an unknown one.
-use mathlib.Core.Path.{refl}
-use borrow.Author.Needs.{needs}
+use mathlib.Core.Path.{refl, sym, _∙_}
 use borrow.Author.Tests.{ne-eqb}
-use Rattle.rules.specs.Subcommand.{looked, subcommand}
+use Rattle.rules.specs.Subcommand.{subcommand}
+use Rattle.decide.proofs.ObeyLaws.{looked-known, looked-unknown}
+use borrow.Author.Needs.{needs}
 use Rattle.decide.proofs.obey.obey_held.Statement.{statement}
 use Rattle.decide.proofs.obey.obey_held.Tie as tie
 
+no-code : tie.Need-returns
+unfolding subcommand
+no-code c = rw (c .err .ensures, c .before .if1 .taken) (record { meaning = refl; sendable = tt })
+
+known : tie.Need-returns-2
+unfolding subcommand
+known c = rw (ne-eqb _ _ (c .before .before .before .before .before .before .if1 .left))
+    (looked-known _ _ (sym (c .before .before .known .given .1) ∙ c .before .before .before .before .command-of .ensures ∙ rw (c .before .before .before .before .before .code .ensures)) (c .judge .ensures))
+
+unknown : tie.Need-returns-3
+unfolding subcommand
+unknown c = rw (ne-eqb _ _ (c .before .before .before .before .before .if1 .left))
+    (looked-unknown _ _ (sym (c .before .enum-told .given .1) ∙ c .before .before .before .command-of .ensures ∙ rw (c .before .before .before .before .code .ensures))
+    (rw (c .err2 .ensures, c .before .before .before .before .code .ensures) (record { meaning = refl; sendable = tt })))
+
 pub obey-held-spec : {M : Type 1} → statement M
-unfolding looked subcommand
 obey-held-spec =
     tie.close
     (tie.spec
-    (λ c κs. search needs)
-    (λ c. rw (c .err .ensures, c .before .if1 .taken) (record { meaning = refl; sendable = tt }))
-    (λ c κs. search needs)
-    (λ c κs. search needs)
-    (λ c. search needs)
-    (λ c κs. search needs)
-    (λ c. search needs)
-    (λ c κs. search needs)
-    (λ c.
-    rw (ne-eqb _ _ (c .before .before .before .before .before .before .if1 .left), ← c .before .before .before .before .before .code .ensures, ← c .before .before .before .before .command-of .ensures, c .before .before .known .given .1)
-    (c .judge .ensures))
-    (λ c.
-    rw (c .err2 .ensures, ne-eqb _ _ (c .before .before .before .before .before .if1 .left), ← c .before .before .before .before .code .ensures, ← c .before .before .before .command-of .ensures, c .before .enum-told .given .1)
-    (record { meaning = rw (c .before .before .before .before .code .ensures); sendable = tt })))
+    (λ c κs. search needs) no-code (λ c κs. search needs) (λ c κs. search needs) (λ c. search needs) (λ c κs. search needs)
+    (λ c. search needs) (λ c κs. search needs) known unknown)

@@ -1,11 +1,9 @@
 -- `class_allows` meets its contract: by whether protection is suppressed.
 use borrow.Author.Needs.{needs}
-use Rattle.rules.specs.Key.{classAllows}
 use Rattle.decide.proofs.text.class_allows.Statement.{statement}
 use Rattle.decide.proofs.text.class_allows.Tie as tie
 
 pub class-allows-spec : {M : Type 1} → statement M
-unfolding classAllows
 class-allows-spec =
     tie.close
     (tie.spec

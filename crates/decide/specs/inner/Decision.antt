@@ -1,0 +1,37 @@
+-- What the private functions of the decisions promise, and what whoever applies a decision goes by.
+use mathlib.Core.Path.{_≡_}
+use mathlib.Core.List.{List, [], _∷_}
+use Prim.Native.Nat.{ℕ}
+use Rattle.rules.specs.declared.Frame.{Frame}
+use Rattle.rules.specs.declared.Held.{Held}
+use Rattle.rules.specs.declared.Command.{Command}
+use Rattle.rules.specs.Session.{View}
+use Rattle.rules.specs.Command.{Row, faultOf}
+use Rattle.rules.specs.Effect.{Change, put, erase, shift, changing}
+use Rattle.rules.specs.Subcommand.{judged}
+use Rattle.decide.specs.declared.decision.Edit.{Edit}
+use Rattle.decide.specs.declared.decision.Edit.the-variants.{Nothing, Put, Erase, Shift, Repeat}
+use Rattle.decide.specs.declared.decision.Say.{Say}
+use Rattle.decide.specs.declared.decision.Format.{Format}
+use Rattle.decide.specs.declared.decision.Decision.{Decision}
+use Rattle.decide.specs.Decision.{edited, Decides}
+
+abbrev pub decision : Frame → Edit → Say → Format → Decision
+decision f edit say format = record { frame = f; edit = edit; say = say; format = format }
+
+-- the changes that are settled without the view: REPEAT has none
+abbrev pub changesOf : Edit → List Change
+changesOf Nothing = []
+changesOf (Put cell c) = put cell c ∷ []
+changesOf (Erase suppressed from end) = erase suppressed from end ∷ []
+changesOf (Shift s from end) = shift s from end 1 ∷ []
+changesOf (Repeat n c) = []
+
+-- not REPEAT: these are all it does
+abbrev pub Once : Edit → Type 0
+Once edit = (v : View) → edited v edit ≡ changing v (changesOf edit)
+
+-- what a command comes to whose row in the list has this meaning and so many parameters
+abbrev pub Judges : View → Decision → Command → ℕ → Held → Type 0
+Judges v d c n h =
+    (r : Row) → r .command ≡ c → r .parameters ≡ n → Decides v d (λ v. judged v r h (faultOf v (r .command) (r .parameters) h))

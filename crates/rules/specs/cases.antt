@@ -1,0 +1,2 @@
+pub mod Vocabulary
+pub mod Computing

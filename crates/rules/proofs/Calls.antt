@@ -30,13 +30,13 @@ taken-ran s reply input e = rw e (refl, take-append-seam _ _)
 -- ---- one law for both kinds of call
 
 -- the reply buffer that a call lends, its refusal, how much it takes, and what that does
-abbrev pub lent : Call → List ℕ
-lent (host input reply) = reply
-lent (key code reply) = reply
+abbrev pub replyOf : Call → List ℕ
+replyOf (host input reply) = reply
+replyOf (key code reply) = reply
 
-abbrev pub refusalOf : State → Call → Refusal
-refusalOf s (host input reply) = hostRefusal s reply
-refusalOf s (key code reply) = keyRefusal s reply code
+abbrev pub refusalBy : State → Call → Refusal
+refusalBy s (host input reply) = hostRefusal s reply
+refusalBy s (key code reply) = keyRefusal s reply code
 
 abbrev pub takenBy : State → Call → ℕ
 takenBy s (host input reply) = takenOf s (length reply) input
@@ -48,8 +48,8 @@ ranBy s (key code reply) = keyRan s code
 
 -- a fact about what a call returns and leaves: where it is taken, and where it is refused
 pub called-cases : (P : Outcome → Type 0) (s : State) (c : Call)
-    → (isTaken (refusalOf s c) ≡ true → P (answering (takenBy s c) (ranBy s c) (lent c)))
-    → (isTaken (refusalOf s c) ≡ false → P (refusing (refusalOf s c) s (lent c))) → P (called s c)
+    → (isTaken (refusalBy s c) ≡ true → P (answering (takenBy s c) (ranBy s c) (replyOf c)))
+    → (isTaken (refusalBy s c) ≡ false → P (refusing (refusalBy s c) s (replyOf c))) → P (called s c)
 unfolding called hostBytes oneKey unless
 called-cases P s (host input reply) = either P (isTaken (hostRefusal s reply))
 called-cases P s (key code reply) = either P (isTaken (keyRefusal s reply code))
@@ -59,7 +59,7 @@ called-cases P s (key code reply) = either P (isTaken (keyRefusal s reply code))
 -- the session, the character and attribute bytes and the reply buffer as they came, and counts of 0
 pub record Unchanged (s : State) (c : Call) (o : Outcome) : Type 0 where
   pub state : left o ≡ s
-  pub reply : o .reply ≡ lent c
+  pub reply : o .reply ≡ replyOf c
   pub taken : o .answer .taken ≡ 0
   pub written : o .answer .written ≡ 0
 

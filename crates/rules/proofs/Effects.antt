@@ -41,14 +41,14 @@ use Rattle.rules.specs.Key.{keyOf, pressed}
 use Rattle.rules.specs.Operation.{happening}
 use Rattle.rules.proofs.Characters.{Text, Fine, text-changed, changed-append}
 use Rattle.rules.proofs.Errors.{no-fault}
-use Rattle.rules.proofs.Replies.{Fits, Follows, fits-nothing, fits-bytes, fits-prefaced, place-message, error-message, function-message, one-text, no-text, fields-text}
+use Rattle.rules.proofs.Replies.{InRoom, Follows, fits-nothing, fits-bytes, fits-prefaced, place-message, error-message, function-message, one-text, no-text, fields-text}
 use Rattle.rules.proofs.Views.{On, SoundView, at-place, switched, attributed, limited-on, place-on, some, field-lt, cursor-lt, destination-on, goes}
 
 -- what an effect keeps on a screen m cells wide and n lines high
 pub record Keeps (m n : ℕ) (e : Effect) : Type 0 where
   pub view : SoundView m n (e .view)
   pub changes : (attrs chars : List ℕ) → Text (n * m) chars → Text (n * m) (changedAll chars attrs (e .changes))
-  pub reply : Fits m n (e .reply)
+  pub reply : InRoom m n (e .reply)
   pub executed : length (e .executed) ≤ 1
 
 -- ---- the kinds of effect
@@ -57,7 +57,7 @@ module _ {m n : ℕ} {v : View} (k : SoundView m n v) where
   cells-some : 0 < n * m
   cells-some = omega (arith, some k, k .attrs)
 
-  says : (ps : List Part) → Fits m n ps → Keeps m n (saying v ps)
+  says : (ps : List Part) → InRoom m n ps → Keeps m n (saying v ps)
   unfolding changedAll
   says ps f = record { view = k; changes = λ attrs chars t. t; reply = f; executed = omega arith }
 

@@ -1,4 +1,4 @@
--- Demand 3, proved: from one effect to lists of host bytes, calls and lists of calls.
+-- Demand 3, noninterference, proved: from one effect to lists of host bytes, calls and lists of calls.
 use mathlib.Core.Path.{_≡_, refl, sym, ap, ap₂, _∙_}
 use mathlib.Core.Bool.{true, false, not, _&&_}
 use mathlib.Core.List.{List, [], _∷_, _++_}
@@ -19,7 +19,7 @@ use Rattle.rules.specs.Cursor.{cursorGuarded}
 use Rattle.rules.specs.Key.{keyOf, needsOf, given, keyTests}
 use Rattle.rules.specs.Operation.{Ran, Outcome, hostByte, applied, running, answering, unless, takenOf, hostBytes, keyRefusal, oneKey}
 use Rattle.rules.specs.Call.{Call, host, key, called, left, answered, answersOf, stateAfter, executedBy, executedOf}
-use Rattle.rules.specs.Noninterference.{noneReaches, Kept, Apart}
+use Rattle.rules.specs.Noninterference.{noneReaches, Kept, Noninterference}
 use Rattle.rules.proofs.Characters.{printable-at}
 use Rattle.rules.proofs.Refusals.{all-pass}
 use Rattle.rules.proofs.Safe.{Twins, still-twins, same-reply}
@@ -156,9 +156,9 @@ module _ (attrs c₀ d₀ : List ℕ) where
         let rest = calls-twins ks (one .states) (none .1) in
         (ap₂ _∷_ (one .answers) (rest .0), rest .1)
 
-pub apart : Apart
-apart s attrs c d calls effect clean-first clean-second alike none =
-    let run = calls-twins attrs c d clean-first clean-second calls (twins s attrs c d refl effect (search)) none in
+pub noninterference : Noninterference
+noninterference s attrs c d calls protecting clean-first clean-second alike none =
+    let run = calls-twins attrs c d clean-first clean-second calls (twins s attrs c d refl protecting (search)) none in
     let end = parts attrs c d (run .1) in
     record {
       answers = run .0;

@@ -22,8 +22,8 @@ use Rattle.rules.specs.Subcommand.{fieldTexts, withoutFirst}
 use Rattle.rules.proofs.Shut.{shut-holds}
 
 -- a reply that fits into the reply room of a screen m cells wide and n lines high
-abbrev pub Fits : ℕ → ℕ → List Part → Type 0
-Fits m n ps = (chars : List ℕ) → length chars ≡ n * m → length (spelledAll chars ps) ≤ replyRoom (freshFrame m n)
+abbrev pub InRoom : ℕ → ℕ → List Part → Type 0
+InRoom m n ps = (chars : List ℕ) → length chars ≡ n * m → length (spelledAll chars ps) ≤ replyRoom (freshFrame m n)
 
 -- what may follow a preface, on a screen of so many cells
 abbrev pub Follows : ℕ → List Part → Type 0
@@ -31,17 +31,17 @@ Follows cells ps = (chars : List ℕ) → length chars ≡ cells → length (spe
 
 module _ (m n : ℕ) where
   -- no reply
-  pub fits-nothing : Fits m n []
+  pub fits-nothing : InRoom m n []
   unfolding spelledAll
   fits-nothing chars e = omega arith
 
   -- a short one
-  pub fits-bytes : 0 < n * m → (bs : List ℕ) → length bs ≤ 9 → Fits m n (bytes bs ∷ [])
+  pub fits-bytes : 0 < n * m → (bs : List ℕ) → length bs ≤ 9 → InRoom m n (bytes bs ∷ [])
   unfolding spelledAll spelled
   fits-bytes h bs l chars e = rw length-append (omega arith)
 
   -- a transmission: its preface takes eight bytes
-  pub fits-prefaced : (bs : List ℕ) (ps : List Part) → length bs ≡ 8 → Follows (n * m) ps → Fits m n (bytes bs ∷ ps)
+  pub fits-prefaced : (bs : List ℕ) (ps : List Part) → length bs ≡ 8 → Follows (n * m) ps → InRoom m n (bytes bs ∷ ps)
   unfolding spelledAll spelled
   fits-prefaced bs ps l f chars e = rw length-append (omega (arith, f chars e))
 

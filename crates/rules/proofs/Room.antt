@@ -16,7 +16,7 @@ use Rattle.rules.specs.Operation.{Outcome, hostByte, running, unless, ta
 use Rattle.rules.specs.Call.{Call, host, key, called}
 use Rattle.rules.specs.cases.Computing.{computing}
 use Rattle.rules.specs.cases.Vocabulary.{starting}
-use Rattle.rules.proofs.Calls.{lent, takenBy, ranBy, called-cases}
+use Rattle.rules.proofs.Calls.{replyOf, takenBy, ranBy, called-cases}
 use Rattle.rules.proofs.Effects.{keeps-happening, keeps-key}
 use Rattle.rules.proofs.Sound.{Sound, sound-byte, Accepted, sound-of}
 
@@ -79,16 +79,16 @@ taken-fits : (s : State) (c : Call) → takenBy s c ≤ offered c
 taken-fits s (host input reply) = taken-most s (length reply) input
 taken-fits s (key code reply) = omega arith
 
-written-fits : (s : State) (c : Call) → Accepted s (lent c) → length ((ranBy s c) .replies) ≤ length (lent c)
+written-fits : (s : State) (c : Call) → Accepted s (replyOf c) → length ((ranBy s c) .replies) ≤ length (replyOf c)
 written-fits s (host input reply) a = replies-fit (a .sound) (length reply) input
 written-fits s (key code reply) a = le-trans (room-key (a .sound) code) (a .room)
 
 pub record Bounded (c : Call) (o : Outcome) : Type 0 where
   pub taken : o .answer .taken ≤ offered c
-  pub written : o .answer .written ≤ length (lent c)
-  pub long : length (o .reply) ≡ length (lent c)
+  pub written : o .answer .written ≤ length (replyOf c)
+  pub long : length (o .reply) ≡ length (replyOf c)
 
--- no more is taken than was offered, no more written than was lent, and the reply buffer keeps its length
+-- no more is taken than was offered, no more written than was replyOf, and the reply buffer keeps its length
 pub called-bounded : (s : State) (c : Call) → Bounded c (called s c)
 called-bounded s c =
     called-cases (Bounded c) s c

@@ -52,17 +52,17 @@ Allowed attrs e = noneReaches (e .executed) ≡ true → SafeEffect attrs e
 
 -- a cell that is not guarded is unprotected
 open-cursor : (v : View) → v .frame .suppressed ≡ false → cursorGuarded v ≡ false → protectedAt (v .attrs) (cursorCell v) ≡ false
-open-cursor v effect g = rw effect at g
+open-cursor v protecting g = rw protecting at g
 
 safe-character : (v : View) → v .frame .suppressed ≡ false → (c : ℕ) → SafeEffect (v .attrs) (hostCharacter v c)
 unfolding hostCharacter
-safe-character v effect c = search (either (SafeEffect (v .attrs)), open-cursor)
+safe-character v protecting c = search (either (SafeEffect (v .attrs)), open-cursor)
 
 safe-characters : (n : ℕ) (v : View) → v .frame .suppressed ≡ false → (c : ℕ) → SafeEffect (v .attrs) (hostCharacters n v c)
 unfolding hostCharacters
-safe-characters zero v effect c = search
-safe-characters (suc n) v effect c =
-    let one = safe-character v effect c in
+safe-characters zero v protecting c = search
+safe-characters (suc n) v protecting c =
+    let one = safe-character v protecting c in
     let rest = rw (one .attributes) at (safe-characters n ((hostCharacter v c) .view) (one .protecting) c) in
     search all-append
 
@@ -75,7 +75,7 @@ module _ (attrs : List ℕ) where
 
   -- and its edit span
   open-span : (suppressed : Bool) → suppressed ≡ false → (i stop : ℕ) → protectedAt attrs i ≡ false → Open attrs i (spanEnd suppressed attrs i stop)
-  open-span suppressed effect i stop u = rw effect (λ j. span-open attrs i stop j u)
+  open-span suppressed protecting i stop u = rw protecting (λ j. span-open attrs i stop j u)
 
   safe-texts : (i n : ℕ) → All (SafePart attrs) (fieldTexts attrs i n)
   unfolding fieldTexts
@@ -86,10 +86,10 @@ module _ (attrs : List ℕ) where
   without-first [] h = tt
   without-first (p ∷ ps) h = h .1
 
-module _ (v : View) (effect : v .frame .suppressed ≡ false) where
+module _ (v : View) (protecting : v .frame .suppressed ≡ false) where
   unless-guarded : {A : Type 0} (P : A → Type 0) (x : A) → (protectedAt (v .attrs) (cursorCell v) ≡ false → P x)
       → All P (if cursorGuarded v then [] else x ∷ [])
-  unless-guarded P x f = either (All P) (cursorGuarded v) (λ g. tt) (λ g. (f (open-cursor v effect g), tt))
+  unless-guarded P x f = either (All P) (cursorGuarded v) (λ g. tt) (λ g. (f (open-cursor v protecting g), tt))
 
   -- ---- host data and negotiation
 
@@ -113,7 +113,7 @@ module _ (v : View) (effect : v .frame .suppressed ≡ false) where
 
   safe-suppressing : (n : ℕ) → eqb n (verbCode Do) ≡ false → SafeEffect (v .attrs) (suppressing v n)
   unfolding suppressing
-  safe-suppressing n r = rw (r, effect) (search (either (SafeEffect (v .attrs))))
+  safe-suppressing n r = rw (r, protecting) (search (either (SafeEffect (v .attrs))))
 
   -- a row of the list: executed with bytes that do not reach past protection, its command is safe
   abbrev SafeRow : Row → Type 0
@@ -193,7 +193,7 @@ module _ (v : View) (effect : v .frame .suppressed ≡ false) where
                                                             (
                                                               λ h r. search,
                                                               -- 36, 37, 38, 41
-                                                              (λ h. past, (λ h r. safe-characters _ v effect _, (λ h. safe-suppressing _, (λ h r. search, tt)))),
+                                                              (λ h. past, (λ h r. safe-characters _ v protecting _, (λ h. safe-suppressing _, (λ h r. search, tt)))),
                                                             ),
                                                           ),
                                                         ),
@@ -246,7 +246,7 @@ module _ (v : View) (effect : v .frame .suppressed ≡ false) where
 
   pub safe-key : (k : Key) → given (needsOf k .unguarded) (not (cursorGuarded v)) ≡ true → SafeEffect (v .attrs) (pressed v k)
   unfolding pressed needsOf
-  safe-key (Typed c) g = let u = open-cursor v effect (not-true _ g) in search
+  safe-key (Typed c) g = let u = open-cursor v protecting (not-true _ g) in search
   safe-key Back g = search
   safe-key Tab g = search
   safe-key Send g = safe-fields
@@ -258,11 +258,11 @@ module _ (v : View) (effect : v .frame .suppressed ≡ false) where
 
 pub safe-happening : (v : View) → v .frame .suppressed ≡ false → (h : Held) (e : Event) → Allowed (v .attrs) (happening v h e)
 unfolding happening
-safe-happening v effect h Nothing = search
-safe-happening v effect h (Data b) = search safe-data
-safe-happening v effect h (Negotiation verb option) = search safe-negotiated
-safe-happening v effect h (Begin option) = search
-safe-happening v effect h (Sub option b) = search
-safe-happening v effect h (End option) = either (Allowed (v .attrs)) (eqb option detOption && v .frame .det) (λ q. safe-subcommand v effect h) (λ q. search)
-safe-happening v effect h EndBare = search
-safe-happening v effect h Lost = search
+safe-happening v protecting h Nothing = search
+safe-happening v protecting h (Data b) = search safe-data
+safe-happening v protecting h (Negotiation verb option) = search safe-negotiated
+safe-happening v protecting h (Begin option) = search
+safe-happening v protecting h (Sub option b) = search
+safe-happening v protecting h (End option) = either (Allowed (v .attrs)) (eqb option detOption && v .frame .det) (λ q. safe-subcommand v protecting h) (λ q. search)
+safe-happening v protecting h EndBare = search
+safe-happening v protecting h Lost = search

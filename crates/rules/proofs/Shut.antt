@@ -10,42 +10,42 @@ use Rattle.rules.specs.declared.Held.{Held}
 use Rattle.rules.specs.Session.{State, noneHeld, session, switched, state}
 use Rattle.rules.specs.Call.{host, called}
 use Rattle.rules.specs.cases.Computing.{computing}
-use Rattle.rules.specs.cases.Vocabulary.{Case, Turn, Seen, characters, see, starting, hostTurn, keyTurn, seenIn, observed, expected}
+use Rattle.rules.specs.cases.Vocabulary.{Case, Trial, Seen, characters, see, starting, hostTrial, keyTrial, seenIn, observed, expected}
 -- the worked forms are checked first
 use Rattle.rules.proofs.Worked.{worked}
 
 -- ---- starts: screens of 4 by 2 with DET on, whose least reply room is 58
 
-abbrev case : State → List Turn → Case
-case s turns = record { start = s; turns = turns }
+abbrev case : State → List Trial → Case
+case s trials = record { start = s; trials = trials }
 
 -- "ABcd" over "eFGH": a protected label, an unprotected field "cde" that crosses the line end, a protected rest
 abbrev label : Bool → ℕ → ℕ → State
 label suppressed x y = starting 4 2 suppressed (characters "ABcdeFGH") (replicate 2 8 ++ (replicate 3 0 ++ replicate 3 8)) x y
 
 -- it with protection in effect, and suppressed
-abbrev form : ℕ → ℕ → List Turn → Case
-form x y turns = case (label false x y) turns
+abbrev form : ℕ → ℕ → List Trial → Case
+form x y trials = case (label false x y) trials
 
-abbrev lifted : ℕ → ℕ → List Turn → Case
-lifted x y turns = case (label true x y) turns
+abbrev lifted : ℕ → ℕ → List Trial → Case
+lifted x y trials = case (label true x y) trials
 
 -- "abcd" over "eF1G": "ab" of no class and "cde" alphabetic side by side, one numeric cell "1" between protected ones
-abbrev sides : ℕ → ℕ → List Turn → Case
-sides x y turns = case (starting 4 2 false (characters "abcdeF1G") (replicate 2 0 ++ (replicate 3 16 ++ (8 ∷ 24 ∷ 8 ∷ []))) x y) turns
+abbrev sides : ℕ → ℕ → List Trial → Case
+sides x y trials = case (starting 4 2 false (characters "abcdeF1G") (replicate 2 0 ++ (replicate 3 16 ++ (8 ∷ 24 ∷ 8 ∷ []))) x y) trials
 
 -- nothing protected; everything protected, by two unequal attribute bytes
-abbrev free : ℕ → ℕ → List Turn → Case
-free x y turns = case (starting 4 2 false (characters "abcdefgh") (replicate 8 0) x y) turns
+abbrev free : ℕ → ℕ → List Trial → Case
+free x y trials = case (starting 4 2 false (characters "abcdefgh") (replicate 8 0) x y) trials
 
-abbrev closed : ℕ → ℕ → List Turn → Case
-closed x y turns = case (starting 4 2 false (characters "ABCDEFGH") (replicate 4 8 ++ replicate 4 9) x y) turns
+abbrev closed : ℕ → ℕ → List Trial → Case
+closed x y trials = case (starting 4 2 false (characters "ABCDEFGH") (replicate 4 8 ++ replicate 4 9) x y) trials
 
 -- one cell with this attribute byte, whose least reply room is 9
 abbrev cell : ℕ → Bool → State
 cell attr suppressed = starting 1 1 suppressed (characters "?") (attr ∷ []) 0 0
 
--- ---- turns: what is given; then the cursor, the characters, the reply
+-- ---- trials: what is given; then the cursor, the characters, the reply
 
 abbrev char : String → ℕ
 char text = getD (characters text) 0 0
@@ -61,42 +61,42 @@ abbrev error : ℕ → ℕ → List ℕ
 error code number = det (41 ∷ code ∷ number ∷ [])
 
 -- host bytes, all taken; a command with its parameters
-abbrev reads : List ℕ → ℕ → ℕ → String → List ℕ → Turn
-reads input x y text reply = hostTurn 58 input (see 0 (length input) x y text reply)
+abbrev reads : List ℕ → ℕ → ℕ → String → List ℕ → Trial
+reads input x y text reply = hostTrial 58 input (see 0 (length input) x y text reply)
 
-abbrev runs : List ℕ → ℕ → ℕ → String → List ℕ → Turn
+abbrev runs : List ℕ → ℕ → ℕ → String → List ℕ → Trial
 runs payload x y text reply = reads (det payload) x y text reply
 
 -- a command without parameters that says nothing
-abbrev does : ℕ → ℕ → ℕ → String → Turn
+abbrev does : ℕ → ℕ → ℕ → String → Trial
 does code x y text = runs (code ∷ []) x y text []
 
 -- commands that leave the label's screen as it is, with parameters and without
-abbrev asks : List ℕ → ℕ → ℕ → List ℕ → Turn
+abbrev asks : List ℕ → ℕ → ℕ → List ℕ → Trial
 asks payload x y reply = runs payload x y "ABcdeFGH" reply
 
-abbrev sends : ℕ → ℕ → ℕ → List ℕ → Turn
+abbrev sends : ℕ → ℕ → ℕ → List ℕ → Trial
 sends code x y reply = asks (code ∷ []) x y reply
 
 -- a key that is taken, and one that is refused
-abbrev press : ℕ → ℕ → ℕ → String → List ℕ → Turn
-press k x y text reply = keyTurn 58 k (see 0 1 x y text reply)
+abbrev press : ℕ → ℕ → ℕ → String → List ℕ → Trial
+press k x y text reply = keyTrial 58 k (see 0 1 x y text reply)
 
-abbrev types : String → ℕ → ℕ → String → Turn
+abbrev types : String → ℕ → ℕ → String → Trial
 types k x y text = press (char k) x y text []
 
-abbrev refuses : ℕ → ℕ → ℕ → ℕ → ℕ → String → Turn
-refuses number room k x y text = keyTurn room k (see number 0 x y text [])
+abbrev refuses : ℕ → ℕ → ℕ → ℕ → ℕ → String → Trial
+refuses number room k x y text = keyTrial room k (see number 0 x y text [])
 
 -- Each key in turn: written there, the cursor having nowhere to go; or refused, and this character stays.
-abbrev written : String → List Turn
-written keys = map (λ k. keyTurn 9 k (record { refusal = 0; taken = 1; x = 0; y = 0; chars = k ∷ []; replies = [] })) (characters keys)
+abbrev written : String → List Trial
+written keys = map (λ k. keyTrial 9 k (record { refusal = 0; taken = 1; x = 0; y = 0; chars = k ∷ []; replies = [] })) (characters keys)
 
-abbrev refused : String → String → List Turn
+abbrev refused : String → String → List Trial
 refused stays keys = map (λ k. refuses 7 9 k 0 0 stays) (characters keys)
 
 -- from (2,0): the number, the code, its parameters; nothing changes
-abbrev errs : ℕ → ℕ → List ℕ → Turn
+abbrev errs : ℕ → ℕ → List ℕ → Trial
 errs number code parameters = asks (code ∷ parameters) 2 0 (error code number)
 
 -- IAC, a verb (251 WILL, 252 WONT, 253 DO, 254 DONT), an option
@@ -104,7 +104,7 @@ abbrev verb : ℕ → ℕ → List ℕ
 verb v option = 0xff ∷ v ∷ option ∷ []
 
 -- host bytes that leave the cursor at (2,0), and the answer
-abbrev hears : List ℕ → List ℕ → Turn
+abbrev hears : List ℕ → List ℕ → Trial
 hears input reply = reads input 2 0 "ABcdeFGH" reply
 
 abbrev unchanged : ℕ → State → Seen
@@ -114,11 +114,11 @@ unchanged number s =
 
 -- with this room host bytes, and a key without meaning, are both refused with this number
 abbrev both : ℕ → ℕ → State → Case
-both number room s = case s (hostTurn room (characters "x") (unchanged number s) ∷ keyTurn room 1 (unchanged number s) ∷ [])
+both number room s = case s (hostTrial room (characters "x") (unchanged number s) ∷ keyTrial room 1 (unchanged number s) ∷ [])
 
 -- keys that are refused, one after the other: the number, the room, the key
 abbrev denied : State → List (ℕ × ℕ × ℕ) → Case
-denied s rows = case s (map (λ r. keyTurn (r .1) (r .2) (unchanged (r .0) s)) rows)
+denied s rows = case s (map (λ r. keyTrial (r .1) (r .2) (unchanged (r .0) s)) rows)
 
 -- one line of this width; these characters, four attribute bytes, the cursor at x
 abbrev line : ℕ → List ℕ → ℕ → State
@@ -144,7 +144,7 @@ shut =
     ∷ case (cell 0 false) (written "~!A0 ")
     ∷ case (cell 24 true) (written "A@") ∷ case (cell 16 true) (written "0") ∷ case (cell 8 true) (written "A")
     -- the host's letter is written on a numeric cell, where a typed one is refused
-    ∷ case (cell 24 false) (hostTurn 9 (characters "A") (see 0 1 0 0 "A" []) ∷ refused "A" "B")
+    ∷ case (cell 24 false) (hostTrial 9 (characters "A") (see 0 1 0 0 "A" []) ∷ refused "A" "B")
     -- ---- a field across a line end, and fields side by side
     -- 23 sends the whole field from either line, 26 the rest of it
     ∷ form 3 0 (sends 23 3 0 (from 2 0 "cde") ∷ sends 26 3 0 (from 3 0 "de") ∷ [])
@@ -266,9 +266,9 @@ shut =
     (hears (0xff ∷ 0xfa ∷ 0x14 ∷ 5 ∷ []) [] ∷ types "x" 3 0 "ABxdeFGH" ∷ reads (1 ∷ 1 ∷ 0xff ∷ 0xf0 ∷ []) 1 1 "ABxdeFGH" [] ∷ [])
     ∷ form 2 0 (hears (0xff ∷ []) [] ∷ hears (0xfa ∷ 0x14 ∷ 11 ∷ 0xff ∷ []) [] ∷ reads (0xf0 ∷ []) 3 0 "ABcdeFGH" [] ∷ [])
     -- Two questions, each answered with 8 bytes. With room 65 there are 57 left after the first, one too few; with 66 there are 58.
-    ∷ form 2 0 (hostTurn 65 (det (17 ∷ []) ++ det (17 ∷ [])) (see 0 6 2 0 "ABcdeFGH" (det (18 ∷ 2 ∷ 0 ∷ []))) ∷ [])
+    ∷ form 2 0 (hostTrial 65 (det (17 ∷ []) ++ det (17 ∷ [])) (see 0 6 2 0 "ABcdeFGH" (det (18 ∷ 2 ∷ 0 ∷ []))) ∷ [])
     ∷ form 2 0
-    (hostTurn 66 (det (17 ∷ []) ++ det (17 ∷ [])) (see 0 12 2 0 "ABcdeFGH" (det (18 ∷ 2 ∷ 0 ∷ []) ++ det (18 ∷ 2 ∷ 0 ∷ []))) ∷ [])
+    (hostTrial 66 (det (17 ∷ []) ++ det (17 ∷ [])) (see 0 12 2 0 "ABcdeFGH" (det (18 ∷ 2 ∷ 0 ∷ []) ++ det (18 ∷ 2 ∷ 0 ∷ []))) ∷ [])
     -- DONT 20 ends suppression: a character is dropped, a command ignored. After DO 20 protection is in effect still.
     ∷ lifted 0 0
     (reads (verb 254 20) 0 0 "ABcdeFGH" (verb 252 20) ∷ reads (verb 254 20) 0 0 "ABcdeFGH" []
@@ -304,7 +304,7 @@ shut =
     ∷ both 2 30 (line 4 (characters "abc") 0) ∷ both 2 23 (line 3 (characters "abc") 0)
     -- 3: 31 and 127, where 32 and 126 are taken
     ∷ both 3 30 (line 4 (31 ∷ characters "bcd") 0) ∷ both 3 30 (line 4 (characters "abc" ++ (127 ∷ [])) 0)
-    ∷ case (line 4 (characters "a ~d") 0) (hostTurn 30 (characters "x") (see 0 1 1 0 "x ~d" []) ∷ [])
+    ∷ case (line 4 (characters "a ~d") 0) (hostTrial 30 (characters "x") (see 0 1 1 0 "x ~d" []) ∷ [])
     -- 4: off the screen in x alone, in y alone; seven bytes held, where six are taken, and are not the next command's
     ∷ both 4 58 (label false 4 0) ∷ both 4 58 (label false 0 2) ∷ both 4 58 (holds 7)
     ∷ case (holds 6) (types "x" 3 0 "ABxdeFGH" ∷ []) ∷ case (holds 6) (sends 11 3 0 [] ∷ [])
@@ -314,7 +314,7 @@ pub shut-holds : observed shut ≡ expected shut
 unfolding computing shut characters seenIn
 shut-holds = refl
 
--- ---- what a turn does not show: the bytes held, and the reply buffer past the bytes written
+-- ---- what a trial does not show: the bytes held, and the reply buffer past the bytes written
 
 abbrev heldIn : List ℕ → Held
 heldIn input = (called (label false 2 0) (host input (replicate 58 7))) .answer .session .reader .held

@@ -22,7 +22,7 @@ use Rattle.rules.specs.Key.{keyOf, keyTests}
 use Rattle.rules.specs.Operation.{Outcome, hostByte, running, unless, hostRefusal, hostBytes, keyRan, oneKey, opened}
 use Rattle.rules.specs.Call.{Call, host, key, called, left, stateAfter}
 use Rattle.rules.proofs.Refusals.{asked}
-use Rattle.rules.proofs.Calls.{lent, refusalOf, ranBy, called-cases}
+use Rattle.rules.proofs.Calls.{replyOf, refusalBy, ranBy, called-cases}
 use Rattle.rules.proofs.Characters.{Text}
 use Rattle.rules.proofs.Views.{SoundView}
 use Rattle.rules.proofs.Effects.{keeps-happening, keeps-key}
@@ -128,7 +128,7 @@ accepted s reply others e =
     }
 
 -- a call that is not refused finds a sound state, and the room for a reply
-pub sound-of : (s : State) (c : Call) → isTaken (refusalOf s c) ≡ true → Accepted s (lent c)
+pub sound-of : (s : State) (c : Call) → isTaken (refusalBy s c) ≡ true → Accepted s (replyOf c)
 unfolding stateTests
 sound-of s (host input reply) e = accepted s reply [] e
 sound-of s (key code reply) e = accepted s reply (keyTests (viewOf s) (keyOf code)) e
@@ -178,6 +178,6 @@ module _ (m n : ℕ) (b : Screen) where
       (isTaken (verdict (sizeTests (freshFrame m n) b))) (λ t r. absurd (r refl)) (λ f r. refl)
 
   -- a refused open's session is refused by every call, with 1, whatever is lent
-  pub refused-open-refused : ((opened m n b) .answer .refusal ≡ Taken → ⊥) → (lent : Screen) (c : Call)
-      → (called (state ((opened m n b) .answer .session) lent) c) .answer .refusal ≡ Size
-  refused-open-refused r lent c = rw (refused-open r) (no-screen lent c)
+  pub refused-open-refused : ((opened m n b) .answer .refusal ≡ Taken → ⊥) → (again : Screen) (c : Call)
+      → (called (state ((opened m n b) .answer .session) again) c) .answer .refusal ≡ Size
+  refused-open-refused r again c = rw (refused-open r) (no-screen again c)

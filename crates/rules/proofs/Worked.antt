@@ -5,23 +5,23 @@ use mathlib.Core.List.{List, [], _∷_, _++_}
 use Prim.Native.Nat.{ℕ}
 use lib.ListN.{replicate}
 use Rattle.rules.specs.cases.Computing.{computing}
-use Rattle.rules.specs.cases.Vocabulary.{Case, Turn, Seen, characters, see, starting, hostTurn, keyTurn, seenIn, observed, expected}
+use Rattle.rules.specs.cases.Vocabulary.{Case, Trial, Seen, characters, see, starting, hostTrial, keyTrial, seenIn, observed, expected}
 
 -- Form F: 8 by 2, "WT 70 #4" over "UNIT mg "; "70 " and "mg " have attribute 0, the rest 8. DET is on. The reply room is 114.
-abbrev formF : ℕ → ℕ → List Turn → Case
-formF x y turns =
+abbrev formF : ℕ → ℕ → List Trial → Case
+formF x y trials =
     record {
       start = starting 8 2 false
           (characters "WT 70 #4UNIT mg ")
           (replicate 3 8 ++ (replicate 3 0 ++ (replicate 7 8 ++ replicate 3 0))) x y;
-      turns = turns;
+      trials = trials;
     }
 
-abbrev bytes : List ℕ → Seen → Turn
-bytes input seen = hostTurn 114 input seen
+abbrev bytes : List ℕ → Seen → Trial
+bytes input seen = hostTrial 114 input seen
 
-abbrev typed : ℕ → Seen → Turn
-typed k seen = keyTurn 114 k seen
+abbrev typed : ℕ → Seen → Trial
+typed k seen = keyTrial 114 k seen
 
 -- what is to be seen: refusal, bytes taken, cursor, both lines' characters, the reply bytes
 unfoldable pub forms : List Case

@@ -1,4 +1,4 @@
--- Demand 3: two sessions that differ in protected characters alone cannot be told apart.
+-- Demand 3, noninterference: two sessions that differ in protected characters alone cannot be told apart.
 use mathlib.Core.Path.{_≡_}
 use mathlib.Core.Bool.{Bool, true, false, not, _&&_}
 use mathlib.Core.List.{List, [], _∷_}
@@ -45,10 +45,12 @@ Untold s attrs c d calls =
     let second = state s (screen d attrs) in
     Indistinct attrs c d (answersOf first calls) (answersOf second calls) (stateAfter first calls) (stateAfter second calls)
 
--- Protection in effect, two screens of printable characters that differ in protected ones alone, any list of calls, the empty
--- one too, that executes none of the seven. The premise on the seven speaks of the first run only: the stronger sentence.
-abbrev pub Apart : Type 0
-Apart =
+-- Noninterference. Two sessions, protection in effect, that differ only in protected characters, are given the same list of calls,
+-- in which none of the seven commands is executed. Then they give the same answers, counts, refusals and reply bytes, end alike, and
+-- keep every protected cell. The list may be any, the empty one too. The premise on the seven speaks of the first run only: the
+-- stronger sentence.
+abbrev pub Noninterference : Type 0
+Noninterference =
     (s : Session) (attrs c d : List ℕ) (calls : List Call)
     → s .frame .suppressed ≡ false
     → allPrintable c ≡ true

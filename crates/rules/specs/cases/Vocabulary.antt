@@ -38,23 +38,23 @@ look o =
     }
 
 -- a call, and what is to be seen after it
-pub record Turn : Type 0 where
+pub record Trial : Type 0 where
   pub call : Call
   pub seen : Seen
 
 pub record Case : Type 0 where
   pub start : State
-  pub turns : List Turn
+  pub trials : List Trial
 
-unfoldable pub seenIn : State → List Turn → List Seen
+unfoldable pub seenIn : State → List Trial → List Seen
 seenIn s [] = []
 seenIn s (t ∷ ts) = let o = called s (t .call) in look o ∷ seenIn (left o) ts
 
 abbrev pub expected : List Case → List (List Seen)
-expected cases = map (λ c. map (λ t. t .seen) (c .turns)) cases
+expected cases = map (λ c. map (λ t. t .seen) (c .trials)) cases
 
 abbrev pub observed : List Case → List (List Seen)
-observed cases = map (λ c. seenIn (c .start) (c .turns)) cases
+observed cases = map (λ c. seenIn (c .start) (c .trials)) cases
 
 -- a start with DET on
 abbrev pub starting : ℕ → ℕ → Bool → List ℕ → List ℕ → ℕ → ℕ → State
@@ -66,11 +66,11 @@ starting m n suppressed chars attrs x y =
     (screen chars attrs)
 
 -- host bytes, or a key, with so much reply room
-abbrev pub hostTurn : ℕ → List ℕ → Seen → Turn
-hostTurn room input seen = record { call = host input (replicate room 0); seen = seen }
+abbrev pub hostTrial : ℕ → List ℕ → Seen → Trial
+hostTrial room input seen = record { call = host input (replicate room 0); seen = seen }
 
-abbrev pub keyTurn : ℕ → ℕ → Seen → Turn
-keyTurn room k seen = record { call = key k (replicate room 0); seen = seen }
+abbrev pub keyTrial : ℕ → ℕ → Seen → Trial
+keyTrial room k seen = record { call = key k (replicate room 0); seen = seen }
 
 abbrev pub see : ℕ → ℕ → ℕ → ℕ → String → List ℕ → Seen
 see refusal taken x y text replies = record { refusal = refusal; taken = taken; x = x; y = y; chars = characters text; replies = replies }

@@ -10,7 +10,7 @@ ghost use Rattle.reply.specs.Pieces.{Wrote, doubledPieces, messagePieces
 use decide::decision::Say;
 use screen::cell::Place;
 use screen::field::field_end;
-use screen::field::opens_at;
+use screen::start::opens_at;
 use screen::text::copy_text;
 use telnet::Verb;
 

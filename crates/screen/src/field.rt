@@ -1,36 +1,10 @@
 // Fields, the longest runs of equal attribute bytes, and the edit span.
 ghost use mathlib.Core.Path.{_≡_};
-ghost use Rattle.screen.specs.Fields.{startsAt, opensAt, fieldStart, fieldEnd, spanEnd};
-use crate::attribute::attribute_at;
-use crate::attribute::is_protected;
+ghost use Rattle.screen.specs.Fields.{fieldStart, fieldEnd, spanEnd};
 use crate::number::least;
 use crate::scan::Target;
 use crate::scan::first;
 use crate::scan::last;
-
-// Does a field start at the cell?
-pub fn starts_at(attrs: &[u8], cell: usize) -> bool
-    ensures { λ r. ⌜ r ≡ startsAt (now (attrs .entry)) cell ⌝ }
-{
-    if cell == 0 {
-        return true;
-    }
-    let before = attribute_at(attrs, cell - 1);
-    let here = attribute_at(attrs, cell);
-    before != here
-}
-
-// Does an unprotected field start at the cell?
-pub fn opens_at(attrs: &[u8], cell: usize) -> bool
-    ensures { λ r. ⌜ r ≡ opensAt (now (attrs .entry)) cell ⌝ }
-{
-    let starts = starts_at(attrs, cell);
-    if !starts {
-        return false;
-    }
-    let protected = is_protected(attrs, cell);
-    !protected
-}
 
 // The first cell of the cell's field.
 pub fn field_start(attrs: &[u8], cell: usize) -> usize

@@ -3,9 +3,9 @@ ghost use mathlib.Core.Path.{_≡_};
 ghost use Rattle.screen.specs.Fields.{firstFrom, lastBefore};
 ghost use Rattle.screen.specs.Scans.{isTarget};
 use crate::attribute::is_guarded;
-use crate::field::opens_at;
-use crate::field::starts_at;
 use crate::number::least;
+use crate::start::opens_at;
+use crate::start::starts_at;
 
 // What a scan looks for.
 pub enum Target {

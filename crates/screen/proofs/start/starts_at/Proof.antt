@@ -3,8 +3,8 @@ use mathlib.Core.Path.{sym, ap}
 use borrow.Author.Needs.{needs}
 use Rattle.screen.specs.Fields.{startsAt}
 use Rattle.screen.proofs.FieldLaws.{starts-after}
-use Rattle.screen.proofs.field.starts_at.Statement.{statement}
-use Rattle.screen.proofs.field.starts_at.Tie as tie
+use Rattle.screen.proofs.start.starts_at.Statement.{statement}
+use Rattle.screen.proofs.start.starts_at.Tie as tie
 
 pub starts-at-spec : {M : Type 1} → statement M
 unfolding startsAt

@@ -4,8 +4,8 @@ use mathlib.Core.Bool.{not}
 use borrow.Author.Needs.{needs}
 use borrow.Author.Tests.{not-true, not-false}
 use Rattle.screen.specs.Fields.{opensAt}
-use Rattle.screen.proofs.field.opens_at.Statement.{statement}
-use Rattle.screen.proofs.field.opens_at.Tie as tie
+use Rattle.screen.proofs.start.opens_at.Statement.{statement}
+use Rattle.screen.proofs.start.opens_at.Tie as tie
 
 pub opens-at-spec : {M : Type 1} → statement M
 unfolding opensAt

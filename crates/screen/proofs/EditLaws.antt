@@ -12,7 +12,7 @@ use lib.Seq.{paste, length-take-le, getD-take, getD-drop}
 use Rattle.screen.specs.Words.{if_then_else_}
 use Rattle.screen.specs.declared.edit.Shift.{Shift}
 use Rattle.screen.specs.declared.edit.Shift.the-variants.{Insertion, Deletion}
-use Rattle.screen.specs.Edits.{deleted, deletedCell, inserted, insertedCell, shifted, lies, onPart, erased, erasedCell, formatted, formattedCell, textOf, fits, Copied}
+use Rattle.screen.specs.Edits.{deleted, deletedCell, inserted, insertedCell, shifted, lies, onPart, erased, erasedCell, formatted, formattedCell, textOf, canCopy, Copied}
 use Rattle.screen.proofs.WordLaws.{either, true-or-false, and-left, and-right, both, and-false, tabulate-length, getD-tabulate}
 use Rattle.screen.proofs.ListLaws.{Replaces, replaced-length, replaced-before, replaced-inside, replaced-after}
 
@@ -45,16 +45,16 @@ unfolding shifted
 shifted-length Insertion by part = inserted-length by part
 shifted-length Deletion by part = deleted-length by part
 
-module _ (suppressed : Bool) (attrs : List ℕ) (from end : ℕ) (chars : List ℕ) where
+module _ (suppressed : Bool) (chars attrs : List ℕ) (from end : ℕ) where
   -- an erasure keeps the length of the characters
-  pub erased-length : length (erased suppressed attrs from end chars) ≡ length chars
+  pub erased-length : length (erased suppressed chars attrs from end) ≡ length chars
   unfolding erased
-  erased-length = tabulate-length (erasedCell suppressed attrs from end chars) 0 (length chars)
+  erased-length = tabulate-length (erasedCell suppressed chars attrs from end) 0 (length chars)
 
   -- a character after an erasure
-  pub erased-cell : (i d : ℕ) → i < length chars → getD (erased suppressed attrs from end chars) i d ≡ erasedCell suppressed attrs from end chars i
+  pub erased-cell : (i d : ℕ) → i < length chars → getD (erased suppressed chars attrs from end) i d ≡ erasedCell suppressed chars attrs from end i
   unfolding erased
-  erased-cell = getD-tabulate (erasedCell suppressed attrs from end chars) (length chars)
+  erased-cell = getD-tabulate (erasedCell suppressed chars attrs from end) (length chars)
 
 module _ (from end attr : ℕ) (attrs : List ℕ) where
   -- formatting keeps the length of the attribute bytes
@@ -164,23 +164,23 @@ module _ (from end by : ℕ) (xs : List ℕ) (e : lies from end xs ≡ true) (i 
 
 -- ---- a text in a reply
 
-module _ {from end : ℕ} {chars reply : List ℕ} {at : ℕ} where
+module _ {chars reply : List ℕ} {from end at : ℕ} where
   -- a text that does not fit leaves the reply as it was
-  pub copied-not : fits from end chars reply at ≡ false → Copied from end chars reply at reply at
+  pub copied-not : canCopy chars reply from end at ≡ false → Copied chars reply from end at reply at
   copied-not e = record { bytes = rw e; next = rw e }
 
   -- so does one for which the reply has no room
-  pub copied-full : length reply < at + (end - from) → Copied from end chars reply at reply at
+  pub copied-full : length reply < at + (end - from) → Copied chars reply from end at reply at
   copied-full h = copied-not (and-false (lies from end chars) _ (lt-leb (at + (end - from)) (length reply) h))
 
   -- a text that fits stands in the reply
   pub copied-all : {reply′ : List ℕ} → lies from end chars ≡ true → at + (end - from) ≤ length reply
-      → reply′ ≡ paste reply at (drop from chars) (end - from) → Copied from end chars reply at reply′ (at + (end - from))
+      → reply′ ≡ paste reply at (drop from chars) (end - from) → Copied chars reply from end at reply′ (at + (end - from))
   copied-all e h p =
       let f = both (lies from end chars) _ e (le-leb (at + (end - from)) (length reply) h) in
       record { bytes = p ∙ rw f; next = rw f }
 
   -- where it fits, the reply and the next place are known
-  pub copied-fits : {reply′ : List ℕ} {at′ : ℕ} → Copied from end chars reply at reply′ at′ → fits from end chars reply at ≡ true
+  pub copied-fits : {reply′ : List ℕ} {at′ : ℕ} → Copied chars reply from end at reply′ at′ → canCopy chars reply from end at ≡ true
       → (reply′ ≡ paste reply at (drop from chars) (end - from)) × (at′ ≡ at + (end - from))
   copied-fits c e = (c .bytes ∙ rw e, c .next ∙ rw e)

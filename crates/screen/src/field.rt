@@ -28,13 +28,13 @@ pub fn field_end(attrs: &[u8], cell: usize) -> usize
     }
 }
 
-// The cell after the last one of the edit span, which starts at the cursor; `stop` is the end of the cursor's line.
-pub fn span_end(attrs: &[u8], cursor: usize, stop: usize, suppressed: bool) -> usize
-    ensures { λ r. ⌜ r ≡ spanEnd suppressed (now (attrs .entry)) cursor stop ⌝ }
+// The cell after the last one of the edit span, which starts at the cell; `stop` is the end of its line.
+pub fn span_end(suppressed: bool, attrs: &[u8], cell: usize, stop: usize) -> usize
+    ensures { λ r. ⌜ r ≡ spanEnd suppressed (now (attrs .entry)) cell stop ⌝ }
 {
     if suppressed {
         return stop;
     }
-    let end = field_end(attrs, cursor);
+    let end = field_end(attrs, cell);
     least(end, stop)
 }

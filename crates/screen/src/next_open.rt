@@ -9,21 +9,21 @@ use crate::cell::cell_of;
 use crate::cell::on_screen;
 use crate::number::wide;
 
-// The next place that is not guarded; none, the place itself.
+// The next place that is not guarded; none, the cursor's own.
 // (Document 01, code places: a nested scan over lines and positions, left by a label at the first open cell.)
-pub fn next_open(attrs: &[u8], width: u8, height: u8, place: Place, suppressed: bool) -> Place
-    ensures { λ r. ⌜ r ≡ nextOpenPlace suppressed (now (attrs .entry)) width height place ⌝ }
+pub fn next_open(suppressed: bool, attrs: &[u8], width: u8, height: u8, cursor: Place) -> Place
+    ensures { λ r. ⌜ r ≡ nextOpenPlace suppressed (now (attrs .entry)) width height cursor ⌝ }
 {
-    let inside = on_screen(width, height, place);
+    let inside = on_screen(width, height, cursor);
     if !inside {
-        return place;
+        return cursor;
     }
     if attrs.len() != wide(height) * wide(width) {
-        return place;
+        return cursor;
     }
-    let mut x = place.x.0 + 1;
-    let mut y = place.y.0;
-    let mut open = place;
+    let mut x = cursor.x.0 + 1;
+    let mut y = cursor.y.0;
+    let mut open = cursor;
     'scan: while y < height {
         while x < width {
             let here = Place {
@@ -31,7 +31,7 @@ pub fn next_open(attrs: &[u8], width: u8, height: u8, place: Place, suppressed: 
                 y: Line(y),
             };
             let cell = cell_of(width, here);
-            let guarded = is_guarded(attrs, cell, suppressed);
+            let guarded = is_guarded(suppressed, attrs, cell);
             if !guarded {
                 open = here;
                 break 'scan;

@@ -22,7 +22,7 @@ fn is_target(attrs: &[u8], target: Target, cell: usize) -> bool
         Target::FieldStart => starts_at(attrs, cell),
         Target::UnprotectedStart => opens_at(attrs, cell),
         Target::Open(suppressed) => {
-            let guarded = is_guarded(attrs, cell, suppressed);
+            let guarded = is_guarded(suppressed, attrs, cell);
             !guarded
         }
     }

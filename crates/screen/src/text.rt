@@ -7,7 +7,7 @@ ghost use Rattle.screen.specs.Edits.{Copied};
 use crate::edit::lies_in;
 
 // Copies the first `count` bytes of the text into the reply from `at` on.
-fn copy(text: &[u8], count: usize, reply: &mut [u8], at: usize)
+fn copy(text: &[u8], reply: &mut [u8], at: usize, count: usize)
     requires { ⌜ (count ≤ length (now text)) × (at + count ≤ length (now reply)) ⌝ }
     ensures { λ _. ⌜ now (reply .exit) ≡ paste (now (reply .entry)) at (now (text .entry)) count ⌝ }
 {
@@ -20,8 +20,8 @@ fn copy(text: &[u8], count: usize, reply: &mut [u8], at: usize)
 
 // Copies the text of a range of cells into the reply from `at` on, and returns the place after it.
 // (Document 01, code places: the part of the character buffer from the cursor on is handed on to be sent.)
-pub fn copy_text(chars: &[u8], from: usize, end: usize, reply: &mut [u8], at: usize) -> usize
-    ensures { λ r. ⌜ Copied from end (now (chars .entry)) (now (reply .entry)) at (now (reply .exit)) r ⌝ }
+pub fn copy_text(chars: &[u8], reply: &mut [u8], from: usize, end: usize, at: usize) -> usize
+    ensures { λ r. ⌜ Copied (now (chars .entry)) (now (reply .entry)) from end at (now (reply .exit)) r ⌝ }
 {
     let inside = lies_in(from, end, chars.len());
     if !inside {
@@ -34,6 +34,6 @@ pub fn copy_text(chars: &[u8], from: usize, end: usize, reply: &mut [u8], at: us
     if reply.len() - count < at {
         return at;
     }
-    copy(&chars[from..], count, reply, at);
+    copy(&chars[from..], reply, at, count);
     at + count
 }

@@ -19,8 +19,8 @@ unfolding erased
 erase-spec =
     tie.close
     (tie.spec
-    (λ chars₀ attrs from end suppressed stop i₀ chars i. (from ≤ i) × Storing (λ k. inRange from end k && not (guardedAt suppressed attrs k)) 32 32 chars₀ i chars)
-    (λ chars₀ attrs from end suppressed stop i₀ chars i. stop - i)
+    (λ suppressed chars₀ attrs from end stop i₀ chars i. (from ≤ i) × Storing (λ k. inRange from end k && not (guardedAt suppressed attrs k)) 32 32 chars₀ i chars)
+    (λ suppressed chars₀ attrs from end stop i₀ chars i. stop - i)
     (λ c κs. search needs)
     (λ c. let a = c .before .before .before .args in
     (omega arith, storing-start (λ k h. rw (before-range (a .from) (a .end) k h))))

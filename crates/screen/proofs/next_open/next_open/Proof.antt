@@ -70,10 +70,10 @@ unfolding nextOpenPlace
 next-open-spec =
     tie.close
     (tie.spec
-    (λ attrs width height suppressed inside x₀ y open₀ x «open». («open» ≡ open₀) × Seeking suppressed attrs width height «open» x y)
-    (λ attrs width height suppressed inside x₀ y open₀ x «open». width - x)
-    (λ attrs width height suppressed inside x₀ y₀ open₀ x y «open». (y ≤ height) × («open» ≡ open₀) × Seeking suppressed attrs width height «open» x y)
-    (λ attrs width height suppressed inside x₀ y₀ open₀ x y «open». height - y)
+    (λ suppressed attrs width height inside x₀ y open₀ x «open». («open» ≡ open₀) × Seeking suppressed attrs width height «open» x y)
+    (λ suppressed attrs width height inside x₀ y open₀ x «open». width - x)
+    (λ suppressed attrs width height inside x₀ y₀ open₀ x y «open». (y ≤ height) × («open» ≡ open₀) × Seeking suppressed attrs width height «open» x y)
+    (λ suppressed attrs width height inside x₀ y₀ open₀ x y «open». height - y)
     (λ c κs. search needs)
     (λ c. rw (sym (c .before .on-screen .ensures) ∙ not-true _ (c .if1 .taken)))
     (λ c κs. search needs)
@@ -89,12 +89,12 @@ next-open-spec =
     ))
     (λ c. let o = c .before .before .before .before in
     let a = o .before .before .before .args in
-    omega (arith, on-screen (a .width) (a .height) (a .place) (sym (o .before .on-screen .ensures) ∙ not-false _ (o .if1 .left))))
+    omega (arith, on-screen (a .width) (a .height) (a .cursor) (sym (o .before .on-screen .ensures) ∙ not-false _ (o .if1 .left))))
     (λ c. let w = c .before .before in
     let o = w .before .before in
     let a = o .before .before .before .args in
     let e = sym (o .before .on-screen .ensures) ∙ not-false _ (o .if1 .left) in (
-      omega (arith, on-screen (a .width) (a .height) (a .place) e),
+      omega (arith, on-screen (a .width) (a .height) (a .cursor) e),
       refl,
       begins e (c .before .if2 .left ∙ rw (w .before .wide .ensures, w .wide2 .ensures)),
     ))

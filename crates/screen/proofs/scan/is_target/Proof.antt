@@ -10,12 +10,12 @@ unfolding isTarget
 is-target-spec =
     tie.close
     (tie.spec
-    (λ c. search needs)
-    (λ c κs. search needs)
-    (λ c. search needs)
-    (λ c κs. search needs)
-    (λ c. search needs)
-    (λ c κs. search needs)
+    (search needs)
+    (search needs)
+    (search needs)
+    (search needs)
+    (search needs)
+    (search needs)
     (λ c. c .starts-at .ensures ∙ rw (c .before .enum-told .given .1))
     (λ c. c .opens-at .ensures ∙ rw (c .before .enum-told2 .given .1))
     (λ c. rw (c .is-guarded .ensures, c .before .before .target .given .1)))

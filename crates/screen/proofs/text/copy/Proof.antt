@@ -13,8 +13,8 @@ pub copy-spec : {M : Type 1} → statement M
 copy-spec =
     tie.close
     (tie.spec
-    (λ text count reply₀ at i₀ reply i. (i ≤ count) × (length reply ≡ length reply₀) × (reply ≡ paste reply₀ at text i))
-    (λ text count reply₀ at i₀ reply i. count - i)
+    (λ text reply₀ at count i₀ reply i. (i ≤ count) × (length reply ≡ length reply₀) × (reply ≡ paste reply₀ at text i))
+    (λ text reply₀ at count i₀ reply i. count - i)
     (λ c. (omega arith, refl, paste-zero _ (c .args .at) (c .args .text .now)))
     (λ c. search needs)
     (λ c. search needs)

@@ -154,7 +154,7 @@ fn place_after(frame: Frame, attrs: &[u8], writer: Writer) -> Place
         Writer::Host => next_place(frame),
         Writer::Operator => {
             let cursor = frame.cursor;
-            next_open(attrs, frame.width, frame.height, cursor, frame.suppressed)
+            next_open(frame.suppressed, attrs, frame.width, frame.height, cursor)
         }
     }
 }

@@ -147,7 +147,7 @@ unfolding decoded
 decoded-is b w h x y d s p q = rw (w, h, x, y, d, s, p, q)
 
 -- bytes copied over as many others
-pub copied-over : {xs buf buf′ : List ℕ} {at : ℕ} → length buf ≡ length xs → Copied 0 (length xs) xs buf 0 buf′ at → buf′ ≡ xs
+pub copied-over : {xs buf buf′ : List ℕ} {at : ℕ} → length buf ≡ length xs → Copied xs buf 0 (length xs) 0 buf′ at → buf′ ≡ xs
 unfolding wroteAll
 copied-over {xs} {buf} {buf′} {at} e c =
     let fit : leb (0 + length xs) (length buf) ≡ true = le-leb (0 + length xs) (length buf) (omega arith) in

@@ -19,7 +19,7 @@ pub data Change : Type 0 where
 
 unfoldable pub changed : List ℕ → Change → List ℕ → List ℕ
 changed attrs (put cell c) chars = set chars cell c
-changed attrs (erase suppressed from end) chars = erased suppressed attrs from end chars
+changed attrs (erase suppressed from end) chars = erased suppressed chars attrs from end
 changed attrs (shift s from end by) chars = onPart from end (shifted s by) chars
 
 unfoldable pub changedAll : List ℕ → List Change → List ℕ → List ℕ

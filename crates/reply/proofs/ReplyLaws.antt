@@ -13,7 +13,7 @@ use lib.Seq.{sets, sets-eq, length-sets, take-all, drop-cons}
 use Rattle.telnet.specs.Writer.{doubled, subnegotiation, negotiation}
 use Rattle.screen.specs.Words.{if_then_else_}
 use Rattle.screen.specs.Fields.{opensAt, fieldEnd}
-use Rattle.screen.specs.Edits.{lies, fits, textOf, Copied}
+use Rattle.screen.specs.Edits.{lies, canCopy, textOf, Copied}
 use Rattle.screen.proofs.WordLaws.{either, true-or-false}
 use Rattle.screen.proofs.FieldLaws.{end-gt, end-le}
 use Rattle.screen.proofs.EditLaws.{text-length, copied-fits}
@@ -90,8 +90,8 @@ doubled-end bytes i h = rw (drop-of-length-le bytes h)
 -- ---- texts
 
 -- what was copied is one piece
-module _ {from end : ℕ} {chars reply : List ℕ} {at : ℕ} {reply′ : List ℕ} {at′ : ℕ} (c : Copied from end chars reply at reply′ at′) where
-  left-out : fits from end chars reply at ≡ false → buffer reply′ at′ ≡ buffer reply at
+module _ {chars reply : List ℕ} {from end at : ℕ} {reply′ : List ℕ} {at′ : ℕ} (c : Copied chars reply from end at reply′ at′) where
+  left-out : canCopy chars reply from end at ≡ false → buffer reply′ at′ ≡ buffer reply at
   left-out e = rw (c .bytes, c .next, e)
 
   put-in : lies from end chars ≡ true → leb (at + (end - from)) (length reply) ≡ true
@@ -117,7 +117,7 @@ whole-piece : (bytes : List ℕ) → textPiece 0 (length bytes) bytes ≡ bytes
 whole-piece bytes = rw (le-leb 0 (length bytes) (omega arith), le-leb (length bytes) (length bytes) (omega arith)) (take-all (length bytes - 0) bytes (omega arith))
 
 -- bytes that were copied whole
-pub copied-whole : {bytes reply : List ℕ} {at : ℕ} {reply′ : List ℕ} {at′ : ℕ} → Copied 0 (length bytes) bytes reply at reply′ at′
+pub copied-whole : {bytes reply : List ℕ} {at : ℕ} {reply′ : List ℕ} {at′ : ℕ} → Copied bytes reply 0 (length bytes) at reply′ at′
     → Wrote reply at (bytes ∷ []) reply′ at′
 copied-whole {bytes} c = rw (whole-piece bytes) at (copied-piece c)
 
@@ -136,7 +136,7 @@ module _ {buf : List ℕ} {at : ℕ} {chars attrs buf₁ : List ℕ} {at₁ : �
     next = omega arith
 
     pub fields-more : {end : ℕ} {buf₂ : List ℕ} {at₂ : ℕ} {buf₃ : List ℕ} {at₃ : ℕ} → opensAt attrs cell ≡ true → end ≡ fieldEnd attrs cell
-        → Wrote buf₁ at₁ (separatorPieces first) buf₂ at₂ → Copied cell end chars buf₂ at₂ buf₃ at₃
+        → Wrote buf₁ at₁ (separatorPieces first) buf₂ at₂ → Copied chars buf₂ cell end at₂ buf₃ at₃
         → WritingFields buf at chars attrs buf₃ at₃ false (cell + 1)
     unfolding fieldPieces
     fields-more opens e p q =

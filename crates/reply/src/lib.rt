@@ -17,7 +17,7 @@ use telnet::Verb;
 fn put(reply: &mut [u8], at: usize, bytes: &[u8]) -> usize
     ensures { λ r. ⌜ Wrote (now (reply .entry)) at (now (bytes .entry) ∷ []) (now (reply .exit)) r ⌝ }
 {
-    copy_text(bytes, 0, bytes.len(), reply, at)
+    copy_text(bytes, reply, 0, bytes.len(), at)
 }
 
 // A byte of a subnegotiation: 255 is written twice.
@@ -100,7 +100,7 @@ fn put_fields(reply: &mut [u8], at: usize, chars: &[u8], attrs: &[u8]) -> usize
         let opens = opens_at(attrs, cell);
         if opens {
             let start = put_separator(reply, next, first);
-            next = copy_text(chars, cell, field_end(attrs, cell), reply, start);
+            next = copy_text(chars, reply, cell, field_end(attrs, cell), start);
             first = false;
         }
         cell += 1;
@@ -120,7 +120,7 @@ pub fn write_reply(say: Say, chars: &[u8], attrs: &[u8], reply: &mut [u8], at: u
         Say::Preface(place) => put_preface(reply, at, place),
         Say::Text { place, from, end } => {
             let next = put_preface(reply, at, place);
-            copy_text(chars, from, end, reply, next)
+            copy_text(chars, reply, from, end, next)
         }
         Say::Fields(place) => {
             let next = put_preface(reply, at, place);

@@ -21,7 +21,7 @@ loop-again c =
     let within = o .before .loop-test .taken in
     let test = sym (o .opens-at .ensures) in
     ⊎-elim
-    (λ w. rw (w .10, w .11, w .12) (fields-more inv within (test ∙ w .0 .taken) (w .5 .ensures) (w .2 .ensures) (w .7 .ensures)))
+    (λ w. rw (w .10, w .11, w .12) (fields-more inv within (test ∙ w .0 .taken) (w .6 .ensures) (w .2 .ensures) (w .7 .ensures)))
     (λ w. rw (w .1, w .2, w .3) (fields-skip inv within (test ∙ w .0 .left)))
     (c .if1 .came)
 

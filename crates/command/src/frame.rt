@@ -48,7 +48,7 @@ pub fn cursor_guarded(frame: Frame, attrs: &[u8]) -> bool
     ensures { λ r. ⌜ r ≡ cursorGuarded (seen frame (attrs .entry)) ⌝ }
 {
     let cell = cursor_cell(frame);
-    is_guarded(attrs, cell, frame.suppressed)
+    is_guarded(frame.suppressed, attrs, cell)
 }
 
 // Is the cursor on the screen, with an attribute byte for each cell?

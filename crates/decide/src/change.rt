@@ -97,10 +97,10 @@ fn cursor_span_end(frame: Frame, attrs: &[u8]) -> usize
 {
     let y = frame.cursor.y;
     span_end(
+        frame.suppressed,
         attrs,
         cursor_cell(frame),
         line_end(frame.width, y),
-        frame.suppressed,
     )
 }
 

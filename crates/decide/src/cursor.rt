@@ -163,7 +163,7 @@ pub(crate) fn next_open_place(frame: Frame, attrs: &[u8]) -> Place
     ensures { λ r. ⌜ r ≡ destination (seen frame (attrs .entry)) Destination.NextOpen ⌝ }
 {
     let cursor = frame.cursor;
-    next_open(attrs, frame.width, frame.height, cursor, frame.suppressed)
+    next_open(frame.suppressed, attrs, frame.width, frame.height, cursor)
 }
 
 // Any of them.

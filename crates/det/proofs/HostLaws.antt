@@ -133,5 +133,5 @@ module _ {s₀ : State} {reply₀ : List ℕ} (a : Accepts s₀ reply₀ 0) {inp
       let all : takenOf s₀ (length reply₀) input ≡ taken = simp (sub-zero, e, add-zero) at (t .count) in
       let whole : part 0 taken input ≡ take taken input = rw sub-zero in
       let count = t .replies .next in
-      let said = rw whole at (emitted-whole (record { fits = rw (← count) (t .room) }) (t .replies)) in
+      let said = rw whole at (emitted-whole (rw (← count) (t .room)) (t .replies)) in
       rw (all, t .state, count, zero-add, whole, said)

@@ -21,7 +21,8 @@ use Rattle.rules.proofs.Room.{room-key}
 use Rattle.decide.specs.declared.decision.Decision.{Decision}
 use Rattle.decide.specs.Decision.{changeOf, partsOf, meant, shown, Decides, whereFits}
 use Rattle.decide.specs.Writing.{pressedIfTaken}
-use Rattle.reply.specs.Pieces.{Wrote, sayPieces}
+use Rattle.reply.specs.Written.{Wrote}
+use Rattle.reply.specs.Pieces.{sayPieces}
 use Rattle.reply.specs.Reply.{Sayable}
 use Rattle.reply.proofs.ReplyLaws.{said}
 use Rattle.det.specs.Apply.{Changes}

@@ -37,10 +37,10 @@ module _ {why r : Refusal} (s : State) (reply : List ℕ) (done : Outcome) (e : 
 -- ---- open
 
 -- every cell erased is spaces
-pub all-spaces : (attrs chars : List ℕ) → erased true attrs 0 (length chars) chars ≡ replicate (length chars) 32
+pub all-spaces : (attrs chars : List ℕ) → erased true chars attrs 0 (length chars) ≡ replicate (length chars) 32
 unfolding erased
 all-spaces attrs chars =
-    sym (tabulated (erasedCell true attrs 0 (length chars) chars) (replicate (length chars) 32) (length chars) 0 (length-replicate _ 32)
+    sym (tabulated (erasedCell true chars attrs 0 (length chars)) (replicate (length chars) 32) (length chars) 0 (length-replicate _ 32)
     (λ k h. getD-replicate _ k 32 0 h ∙ rw (in-range 0 (length chars) k (omega arith) h)))
 
 module _ (m n : ℕ) (b : Screen) {why : Refusal} (e : why ≡ verdict (sizeTests (freshFrame m n) b)) where
@@ -60,7 +60,7 @@ module _ (m n : ℕ) (b : Screen) {why : Refusal} (e : why ≡ verdict (sizeTest
         let a = and-right (eqb (length (b .chars)) (n * m)) (eqb (length (b .attrs)) (n * m)) (passed .1 .0) in
         (sizes .0, sizes .1, eqb-true _ _ c, eqb-true _ _ a)
 
-    pub open-done : {s : Session} {chars attrs : List ℕ} → s ≡ fresh m n → chars ≡ erased true (b .attrs) 0 (length (b .chars)) (b .chars)
+    pub open-done : {s : Session} {chars attrs : List ℕ} → s ≡ fresh m n → chars ≡ erased true (b .chars) (b .attrs) 0 (length (b .chars))
         → attrs ≡ formatted 0 (length (b .attrs)) 0 (b .attrs)
         → outcome (record { session = s; refusal = Taken; taken = 0; written = 0 }) (screen chars attrs) [] ≡ opened m n b
     unfolding opened

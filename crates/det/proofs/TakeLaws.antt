@@ -1,7 +1,7 @@
 -- Laws of one host byte: what is decided on what the reader told, and what the decision does.
 use mathlib.Core.Path.{_≡_, refl, sym, ap, _∙_}
 use mathlib.Core.List.{List, []}
-use Prim.Native.Nat.{ℕ, _≤_}
+use Prim.Native.Nat.{ℕ, _+_, _≤_}
 use native.Mathlib.Omega.{arith}
 use lib.Dec.{eqb}
 use lib.ListN.{length, drop, length-drop}
@@ -25,7 +25,7 @@ use Rattle.decide.specs.declared.decision.Say.{Say}
 use Rattle.det.specs.declared.apply.Applied.{Applied}
 use Rattle.command.specs.Frame.{Fits}
 use Rattle.decide.specs.Decision.{meant, shown, partsOf, Sendable, Decides}
-use Rattle.reply.specs.Reply.{Room, Emitted, Sayable}
+use Rattle.reply.specs.Reply.{Emitted, Sayable}
 use Rattle.det.specs.Apply.{Changes, Applies}
 use Rattle.det.specs.Take.{Accepts, Answerable}
 use Rattle.det.proofs.ReplyLaws.{emitted-none}
@@ -102,8 +102,8 @@ module _ {s : State} {reply : List ℕ} {at : ℕ} (a : Accepts s reply at) wher
       record { on = record { x = v .cursor .0; y = v .cursor .1 }; long = v .attrs }
 
   -- a reply no longer than the worst fits
-  fits-worst : {bytes : List ℕ} → length bytes ≤ replyRoom (s .session .frame) → Room reply at bytes
-  fits-worst h = record { fits = omega (arith, accepted .room, length-drop at reply) }
+  fits-worst : {n : ℕ} → n ≤ replyRoom (s .session .frame) → at + n ≤ length reply
+  fits-worst h = omega (arith, accepted .room, length-drop at reply)
 
   equally-long : length (s .screen .chars) ≡ length (s .screen .attrs)
   equally-long = let k = accepted .sound in k .chars .long ∙ sym (k .view .attrs)

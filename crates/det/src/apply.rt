@@ -33,8 +33,8 @@ fn change_cells(change: Change, chars: &mut [u8], attrs: &[u8])
             suppressed,
             from,
             end,
-        } => erase(chars, attrs, from, end, suppressed),
-        Change::Shift { shift, from, end } => shift_range(chars, shift, from, end, 1),
+        } => erase(suppressed, chars, attrs, from, end),
+        Change::Shift { shift, from, end } => shift_range(chars, from, end, shift, 1),
         Change::Repeat { count: _, byte: _ } => {}
     }
 }

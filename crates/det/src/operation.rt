@@ -145,7 +145,7 @@ pub fn open(width: usize, height: usize, chars: &mut [u8], attrs: &mut [u8]) -> 
         return refused(fresh_session(0, 0), why);
     };
     let session = fresh_session(width as u8, height as u8);
-    erase(chars, attrs, 0, chars.len(), true);
+    erase(true, chars, attrs, 0, chars.len());
     format(attrs, 0, attrs.len(), 0);
     Answer {
         session: session,

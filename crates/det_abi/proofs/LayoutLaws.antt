@@ -19,8 +19,8 @@ use Rattle.screen.proofs.WordLaws.{true-or-false, and-left, and-right, tabulate
 use Rattle.rules.specs.declared.Held.{Held}
 use Rattle.rules.specs.declared.Session.{Session}
 use Rattle.rules.specs.Session.{session}
-use Rattle.reply.specs.Pieces.{Buffer, buffer, wroteAll}
-use Rattle.reply.proofs.ReplyLaws.{copied-whole}
+use Rattle.reply.specs.Written.{Buffer, buffer, wroteAll}
+use Rattle.reply.proofs.WriteLaws.{whole, copied-whole}
 use Rattle.det_abi.specs.Layout.{sessionLength, bitOf, phaseNumber, phaseOption, encoded, byteAt, isSession, phaseOf, decoded}
 
 -- six bytes are those that are read from them
@@ -147,10 +147,10 @@ unfolding decoded
 decoded-is b w h x y d s p q = rw (w, h, x, y, d, s, p, q)
 
 -- bytes copied over as many others
-pub copied-over : {xs buf buf′ : List ℕ} {at : ℕ} → length buf ≡ length xs → Copied 0 (length xs) xs buf 0 buf′ at → buf′ ≡ xs
+pub copied-over : {xs buf buf′ : List ℕ} {at : ℕ} → length buf ≡ length xs → Copied xs buf 0 (length xs) 0 buf′ at → buf′ ≡ xs
 unfolding wroteAll
 copied-over {xs} {buf} {buf′} {at} e c =
     let fit : leb (0 + length xs) (length buf) ≡ true = le-leb (0 + length xs) (length buf) (omega arith) in
-    let all : buffer buf′ at ≡ buffer (sets buf 0 xs) (0 + length xs) = (copied-whole c) .is ∙ rw fit in
+    let all : buffer buf′ at ≡ buffer (sets buf 0 xs) (0 + length xs) = whole (copied-whole c) ∙ rw fit in
     let stored : buf′ ≡ sets buf 0 xs = ap (λ (b : Buffer). b .bytes) all in
     stored ∙ sets-eq xs buf 0 (omega arith) ∙ rw (zero-add, drop-of-length-le buf {i = length xs} (omega arith)) (append-nil xs)

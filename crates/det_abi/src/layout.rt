@@ -176,5 +176,5 @@ pub(crate) fn encode(session: Session, bytes: &mut [u8])
         held[5],
         reader.held.count,
     ];
-    copy_text(&spelled, 0, SESSION_LENGTH, bytes, 0);
+    copy_text(&spelled, bytes, 0, SESSION_LENGTH, 0);
 }

@@ -9,8 +9,8 @@ use Rattle.decide.specs.declared.decision.Say.{Say}
 use Rattle.decide.specs.Decision.{partsOf, Sendable}
 
 -- the bytes fit into buf from `at` on
-pub record Room (buf : List ℕ) (at : ℕ) (bytes : List ℕ) : Type 0 where
-  pub fits : at + length bytes ≤ length buf
+abbrev pub Room : List ℕ → ℕ → List ℕ → Type 0
+Room buf at bytes = at + length bytes ≤ length buf
 
 -- from buf, the bytes were written from `at` on, which gives buf′ and the next place at′
 pub record Emitted (buf : List ℕ) (at : ℕ) (bytes : List ℕ) (buf′ : List ℕ) (at′ : ℕ) : Type 0 where

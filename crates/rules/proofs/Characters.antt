@@ -86,7 +86,7 @@ module _ (chars attrs : List ℕ) where
   pub changed-length : (c : Change) → length (changed chars attrs c) ≡ length chars
   unfolding changed
   changed-length (put cell c) = length-set chars cell c
-  changed-length (erase suppressed from end) = erased-length suppressed attrs from end chars
+  changed-length (erase suppressed from end) = erased-length suppressed chars attrs from end
   changed-length (shift s from end by) = onPart-length from end (shifted s by) (shifted-length s by) chars
 
   changed-printable : (c : Change) → Fine c → allPrintable chars ≡ true → allPrintable (changed chars attrs c) ≡ true

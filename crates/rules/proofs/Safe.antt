@@ -96,11 +96,11 @@ module _ (attrs : List ℕ) where
         (λ e. untouched (λ x h. getD-set-other x cell i v 0 (eqb-false i cell e)));
   }
 
-  safe-erase : (from end : ℕ) → SafeEdit attrs (erased false attrs from end)
+  safe-erase : (from end : ℕ) → SafeEdit attrs (λ chars. erased false chars attrs from end)
   safe-erase from end = record {
-    long = erased-length false attrs from end;
+    long = λ chars. erased-length false chars attrs from end;
     cell = λ i.
-        let now : (x : List ℕ) → _ = λ x. erased-cell false attrs from end x i 0 in
+        let now : (x : List ℕ) → _ = λ x. erased-cell false x attrs from end i 0 in
         true-or-false (inRange from end i && not (protectedAt attrs i))
         (λ e. written (not-true _ (and-right (inRange from end i) _ e)) (λ c d a h k. rw e at (now c h) ∙ sym (rw e at (now d k))))
         (λ e. untouched (λ x h. rw e at (now x h) ∙ getD-within x i 32 0 h));

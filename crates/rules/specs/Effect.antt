@@ -21,7 +21,7 @@ pub data Change : Type 0 where
 -- the characters after a change, and after one change after the other
 unfoldable pub changed : List ℕ → List ℕ → Change → List ℕ
 changed chars attrs (put cell c) = set chars cell c
-changed chars attrs (erase suppressed from end) = erased suppressed attrs from end chars
+changed chars attrs (erase suppressed from end) = erased suppressed chars attrs from end
 changed chars attrs (shift s from end by) = onPart from end (shifted s by) chars
 
 unfoldable pub changedAll : List ℕ → List ℕ → List Change → List ℕ

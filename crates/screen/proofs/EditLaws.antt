@@ -4,7 +4,7 @@ use mathlib.Core.Bool.{Bool, true, false, _&&_}
 use mathlib.Core.List.{List, _++_}
 use Prim.Native.Nat.{ℕ, _+_, _-_, _≤_, _<_}
 use native.Mathlib.Omega.{arith}
-use borrow.Author.Tests.{ltb-true, ltb-false, leb-true, lt-ltb, le-ltb, le-leb, lt-leb}
+use borrow.Author.Tests.{ltb-true, ltb-false, leb-true, leb-false, lt-ltb, le-ltb, le-leb, lt-leb}
 use borrow.Rule.Slice.PartMut.{putMid, post-is}
 use lib.Dec.{leb, ltb}
 use lib.ListN.{length, getD, take, drop, length-drop, List·getD-eq-default}
@@ -12,8 +12,8 @@ use lib.Seq.{paste, length-take-le, getD-take, getD-drop}
 use Rattle.screen.specs.Words.{if_then_else_}
 use Rattle.screen.specs.declared.edit.Shift.{Shift}
 use Rattle.screen.specs.declared.edit.Shift.the-variants.{Insertion, Deletion}
-use Rattle.screen.specs.Edits.{deleted, deletedCell, inserted, insertedCell, shifted, lies, onPart, erased, erasedCell, formatted, formattedCell, textOf, fits, Copied}
-use Rattle.screen.proofs.WordLaws.{either, true-or-false, and-left, and-right, both, and-false, tabulate-length, getD-tabulate}
+use Rattle.screen.specs.Edits.{deleted, deletedCell, inserted, insertedCell, shifted, lies, onPart, erased, erasedCell, formatted, formattedCell, textOf, canCopy, Copied}
+use Rattle.screen.proofs.WordLaws.{either, true-or-false, and-left, and-right, tabulate-length, getD-tabulate}
 use Rattle.screen.proofs.ListLaws.{Replaces, replaced-length, replaced-before, replaced-inside, replaced-after}
 
 -- ---- each edit keeps the length, and its cells are what the definition says, whatever is read beyond the end
@@ -45,16 +45,16 @@ unfolding shifted
 shifted-length Insertion by part = inserted-length by part
 shifted-length Deletion by part = deleted-length by part
 
-module _ (suppressed : Bool) (attrs : List ℕ) (from end : ℕ) (chars : List ℕ) where
+module _ (suppressed : Bool) (chars attrs : List ℕ) (from end : ℕ) where
   -- an erasure keeps the length of the characters
-  pub erased-length : length (erased suppressed attrs from end chars) ≡ length chars
+  pub erased-length : length (erased suppressed chars attrs from end) ≡ length chars
   unfolding erased
-  erased-length = tabulate-length (erasedCell suppressed attrs from end chars) 0 (length chars)
+  erased-length = tabulate-length (erasedCell suppressed chars attrs from end) 0 (length chars)
 
   -- a character after an erasure
-  pub erased-cell : (i d : ℕ) → i < length chars → getD (erased suppressed attrs from end chars) i d ≡ erasedCell suppressed attrs from end chars i
+  pub erased-cell : (i d : ℕ) → i < length chars → getD (erased suppressed chars attrs from end) i d ≡ erasedCell suppressed chars attrs from end i
   unfolding erased
-  erased-cell = getD-tabulate (erasedCell suppressed attrs from end chars) (length chars)
+  erased-cell = getD-tabulate (erasedCell suppressed chars attrs from end) (length chars)
 
 module _ (from end attr : ℕ) (attrs : List ℕ) where
   -- formatting keeps the length of the attribute bytes
@@ -164,23 +164,34 @@ module _ (from end by : ℕ) (xs : List ℕ) (e : lies from end xs ≡ true) (i 
 
 -- ---- a text in a reply
 
-module _ {from end : ℕ} {chars reply : List ℕ} {at : ℕ} where
-  -- a text that does not fit leaves the reply as it was
-  pub copied-not : fits from end chars reply at ≡ false → Copied from end chars reply at reply at
+-- where there is room for c bytes, they fit from `at` on as long as `at` is not among the last c
+pub room-after : (at c room : ℕ) → c ≤ room → leb at (room - c) ≡ leb (at + c) room
+room-after at c room h =
+    true-or-false (leb (at + c) room)
+    (λ e. let k = leb-true (at + c) room e in rw e (le-leb at (room - c) (omega arith)))
+    (λ e. let k = leb-false (at + c) room e in rw e (lt-leb at (room - c) (omega arith)))
+
+-- the bounds of a text that passed the test
+pub copy-bounds : {possible : Bool} → possible ≡ true → (len room from end at : ℕ)
+    → possible ≡ ((leb from end && leb end len) && leb (at + (end - from)) room) → (from ≤ end) × (end ≤ len) × (at + (end - from) ≤ room)
+copy-bounds t len room from end at e =
+    let l = and-left (leb from end && leb end len) (leb (at + (end - from)) room) (sym e ∙ t) in (
+      lies-ordered l from end len refl,
+      lies-end l from end len refl,
+      leb-true (at + (end - from)) room (and-right (leb from end && leb end len) (leb (at + (end - from)) room) (sym e ∙ t)),
+    )
+
+module _ {chars reply : List ℕ} {from end at : ℕ} where
+  -- a text that cannot be copied leaves the reply as it was
+  pub copied-not : canCopy chars reply from end at ≡ false → Copied chars reply from end at reply at
   copied-not e = record { bytes = rw e; next = rw e }
 
-  -- so does one for which the reply has no room
-  pub copied-full : length reply < at + (end - from) → Copied from end chars reply at reply at
-  copied-full h = copied-not (and-false (lies from end chars) _ (lt-leb (at + (end - from)) (length reply) h))
+  -- one that can stands in the reply
+  pub copied-all : {reply′ : List ℕ} → canCopy chars reply from end at ≡ true → reply′ ≡ paste reply at (drop from chars) (end - from)
+      → Copied chars reply from end at reply′ (at + (end - from))
+  copied-all e p = record { bytes = p ∙ rw e; next = rw e }
 
-  -- a text that fits stands in the reply
-  pub copied-all : {reply′ : List ℕ} → lies from end chars ≡ true → at + (end - from) ≤ length reply
-      → reply′ ≡ paste reply at (drop from chars) (end - from) → Copied from end chars reply at reply′ (at + (end - from))
-  copied-all e h p =
-      let f = both (lies from end chars) _ e (le-leb (at + (end - from)) (length reply) h) in
-      record { bytes = p ∙ rw f; next = rw f }
-
-  -- where it fits, the reply and the next place are known
-  pub copied-fits : {reply′ : List ℕ} {at′ : ℕ} → Copied from end chars reply at reply′ at′ → fits from end chars reply at ≡ true
+  -- and then the reply and the next place are known
+  pub copied-whole : {reply′ : List ℕ} {at′ : ℕ} → Copied chars reply from end at reply′ at′ → canCopy chars reply from end at ≡ true
       → (reply′ ≡ paste reply at (drop from chars) (end - from)) × (at′ ≡ at + (end - from))
-  copied-fits c e = (c .bytes ∙ rw e, c .next ∙ rw e)
+  copied-whole c e = (c .bytes ∙ rw e, c .next ∙ rw e)

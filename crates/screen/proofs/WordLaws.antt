@@ -1,4 +1,4 @@
--- Laws of the words: choices, tests, scans over numbers, lists by their elements.
+-- Laws of `if` and of tests, of the first and the last number that passes one, and of lists given by their elements.
 use mathlib.Core.Path.{_≡_, refl, sym, ap, _∙_}
 use mathlib.Core.Bool.{Bool, true, false, _&&_}
 use mathlib.Core.List.{List, [], _∷_}

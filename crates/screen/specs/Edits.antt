@@ -41,12 +41,12 @@ onPart from end edit chars =
     if lies from end chars then take from chars ++ (edit (take (end - from) (drop from chars)) ++ drop end chars) else chars
 
 -- 29 to 35: spaces in the cells of the range that are not guarded. (29 erases as while suppressed, 35 as while in effect.)
-abbrev pub erasedCell : Bool → List ℕ → ℕ → ℕ → List ℕ → ℕ → ℕ
-erasedCell suppressed attrs from end chars i =
+abbrev pub erasedCell : Bool → List ℕ → List ℕ → ℕ → ℕ → ℕ → ℕ
+erasedCell suppressed chars attrs from end i =
     if inRange from end i && not (guardedAt suppressed attrs i) then 32 else getD chars i 32
 
-unfoldable pub erased : Bool → List ℕ → ℕ → ℕ → List ℕ → List ℕ
-erased suppressed attrs from end chars = tabulate (erasedCell suppressed attrs from end chars) 0 (length chars)
+unfoldable pub erased : Bool → List ℕ → List ℕ → ℕ → ℕ → List ℕ
+erased suppressed chars attrs from end = tabulate (erasedCell suppressed chars attrs from end) 0 (length chars)
 
 -- 36, format data: the cells of the range take the attribute byte
 abbrev pub formattedCell : ℕ → ℕ → ℕ → List ℕ → ℕ → ℕ
@@ -60,10 +60,10 @@ abbrev pub textOf : ℕ → ℕ → List ℕ → List ℕ
 textOf from end chars = take (end - from) (drop from chars)
 
 -- the range lies in the characters, and its text fits into the reply from `at` on
-abbrev pub fits : ℕ → ℕ → List ℕ → List ℕ → ℕ → Bool
-fits from end chars reply at = lies from end chars && leb (at + (end - from)) (length reply)
+abbrev pub canCopy : List ℕ → List ℕ → ℕ → ℕ → ℕ → Bool
+canCopy chars reply from end at = lies from end chars && leb (at + (end - from)) (length reply)
 
 -- The reply with that text from `at` on, and the place after it. Nothing happens where it does not fit.
-pub record Copied (from end : ℕ) (chars reply : List ℕ) (at : ℕ) (reply′ : List ℕ) (at′ : ℕ) : Type 0 where
-  pub bytes : reply′ ≡ (if fits from end chars reply at then paste reply at (drop from chars) (end - from) else reply)
-  pub next : at′ ≡ (if fits from end chars reply at then at + (end - from) else at)
+pub record Copied (chars reply : List ℕ) (from end at : ℕ) (reply′ : List ℕ) (at′ : ℕ) : Type 0 where
+  pub bytes : reply′ ≡ (if canCopy chars reply from end at then paste reply at (drop from chars) (end - from) else reply)
+  pub next : at′ ≡ (if canCopy chars reply from end at then at + (end - from) else at)

@@ -1,4 +1,4 @@
--- Words that the definitions are written in: a choice, tests on numbers, scans over numbers, a list by its elements.
+-- `if`, tests on numbers, the first and the last number that passes a test, and a list given by its elements.
 use mathlib.Core.Bool.{Bool, true, false, _&&_}
 use mathlib.Core.List.{List, [], _∷_}
 use Prim.Native.Nat.{ℕ, zero, suc}

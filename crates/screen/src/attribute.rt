@@ -23,7 +23,7 @@ pub fn is_protected(attrs: &[u8], cell: usize) -> bool
     protection(attr) == 1
 }
 
-pub fn is_guarded(attrs: &[u8], cell: usize, suppressed: bool) -> bool
+pub fn is_guarded(suppressed: bool, attrs: &[u8], cell: usize) -> bool
     ensures { λ r. ⌜ r ≡ guardedAt suppressed (now (attrs .entry)) cell ⌝ }
 {
     if suppressed {

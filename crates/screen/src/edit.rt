@@ -22,7 +22,7 @@ pub(crate) fn lies_in(from: usize, end: usize, len: usize) -> bool
 }
 
 // The byte that comes to place i when the part moves towards its start.
-fn from_behind(part: &[u8], by: usize, i: usize) -> u8
+fn from_behind(part: &[u8], i: usize, by: usize) -> u8
     requires { ⌜ i < length (now part) ⌝ }
     ensures { λ r. ⌜ r ≡ deletedCell by (now (part .entry)) i ⌝ }
 {
@@ -34,7 +34,7 @@ fn from_behind(part: &[u8], by: usize, i: usize) -> u8
 }
 
 // The byte that comes to place i when the part moves towards its end.
-fn from_ahead(part: &[u8], by: usize, i: usize) -> u8
+fn from_ahead(part: &[u8], i: usize, by: usize) -> u8
     requires { ⌜ i < length (now part) ⌝ }
     ensures { λ r. ⌜ r ≡ insertedCell by (now (part .entry)) i ⌝ }
 {
@@ -47,7 +47,7 @@ fn shift_down(part: &mut [u8], by: usize)
 {
     let mut i = 0;
     while i < part.len() {
-        part[i] = from_behind(part, by, i);
+        part[i] = from_behind(part, i, by);
         i += 1;
     }
 }
@@ -59,7 +59,7 @@ fn shift_up(part: &mut [u8], by: usize)
     let mut i = part.len();
     while 0 < i {
         i -= 1;
-        part[i] = from_ahead(part, by, i);
+        part[i] = from_ahead(part, i, by);
     }
 }
 
@@ -74,7 +74,7 @@ fn shift_part(part: &mut [u8], shift: Shift, by: usize)
 
 // Inserts `by` spaces at the start of the range, or deletes `by` characters there.
 // (Document 01, code places: the mutable part that starts at the cursor is lent to the shifting routine.)
-pub fn shift_range(chars: &mut [u8], shift: Shift, from: usize, end: usize, by: usize)
+pub fn shift_range(chars: &mut [u8], from: usize, end: usize, shift: Shift, by: usize)
     ensures { λ _. ⌜ now (chars .exit) ≡ onPart from end (shifted shift by) (now (chars .entry)) ⌝ }
 {
     let inside = lies_in(from, end, chars.len());
@@ -84,13 +84,13 @@ pub fn shift_range(chars: &mut [u8], shift: Shift, from: usize, end: usize, by: 
 }
 
 // Spaces in the cells of the range that are not guarded.
-pub fn erase(chars: &mut [u8], attrs: &[u8], from: usize, end: usize, suppressed: bool)
-    ensures { λ _. ⌜ now (chars .exit) ≡ erased suppressed (now (attrs .entry)) from end (now (chars .entry)) ⌝ }
+pub fn erase(suppressed: bool, chars: &mut [u8], attrs: &[u8], from: usize, end: usize)
+    ensures { λ _. ⌜ now (chars .exit) ≡ erased suppressed (now (chars .entry)) (now (attrs .entry)) from end ⌝ }
 {
     let stop = least(end, chars.len());
     let mut i = from;
     while i < stop {
-        let guarded = is_guarded(attrs, i, suppressed);
+        let guarded = is_guarded(suppressed, attrs, i);
         if !guarded {
             chars[i] = 32;
         }

@@ -8,4 +8,5 @@ pub mod field;
 pub mod next_open;
 mod number;
 pub mod scan;
+pub mod start;
 pub mod text;

@@ -1,37 +1,32 @@
 // The cursor after a typed character.
 ghost use mathlib.Core.Path.{_≡_};
-ghost use Rattle.screen.specs.Scans.{nextOpenPlace};
+ghost use Prim.Native.Nat.{_*_, _<_};
+ghost use lib.ListN.{length};
+ghost use Rattle.screen.specs.Cells.{cellOf, placeOf};
+ghost use Rattle.screen.specs.Scans.{nextOpen, nextOpenPlace};
 use crate::attribute::is_guarded;
 use crate::cell::Column;
 use crate::cell::Line;
 use crate::cell::Place;
 use crate::cell::cell_of;
+use crate::cell::line_start;
 use crate::cell::on_screen;
-use crate::number::wide;
 
-// The next place that is not guarded; none, the place itself.
 // (Document 01, code places: a nested scan over lines and positions, left by a label at the first open cell.)
-pub fn next_open(attrs: &[u8], width: u8, height: u8, place: Place, suppressed: bool) -> Place
-    ensures { λ r. ⌜ r ≡ nextOpenPlace suppressed (now (attrs .entry)) width height place ⌝ }
+fn open_after(suppressed: bool, attrs: &[u8], width: u8, height: u8, cursor: Place) -> Place
+    requires { ⌜ (cursor .x .0 < width) × (cursor .y .0 < height) × (length (now attrs) ≡ height * width) ⌝ }
+    ensures { λ r. ⌜ r ≡ placeOf width (nextOpen suppressed (now (attrs .entry)) (cellOf width cursor)) ⌝ }
 {
-    let inside = on_screen(width, height, place);
-    if !inside {
-        return place;
-    }
-    if attrs.len() != wide(height) * wide(width) {
-        return place;
-    }
-    let mut x = place.x.0 + 1;
-    let mut y = place.y.0;
-    let mut open = place;
+    let mut x = cursor.x.0 + 1;
+    let mut y = cursor.y.0;
+    let mut open = cursor;
     'scan: while y < height {
         while x < width {
             let here = Place {
                 x: Column(x),
                 y: Line(y),
             };
-            let cell = cell_of(width, here);
-            let guarded = is_guarded(attrs, cell, suppressed);
+            let guarded = is_guarded(suppressed, attrs, cell_of(width, here));
             if !guarded {
                 open = here;
                 break 'scan;
@@ -42,4 +37,18 @@ pub fn next_open(attrs: &[u8], width: u8, height: u8, place: Place, suppressed: 
         y += 1;
     }
     open
+}
+
+// The next place that is not guarded; none, the cursor's own.
+pub fn next_open(suppressed: bool, attrs: &[u8], width: u8, height: u8, cursor: Place) -> Place
+    ensures { λ r. ⌜ r ≡ nextOpenPlace suppressed (now (attrs .entry)) width height cursor ⌝ }
+{
+    let inside = on_screen(width, height, cursor);
+    if !inside {
+        return cursor;
+    }
+    if attrs.len() != line_start(width, Line(height)) {
+        return cursor;
+    }
+    open_after(suppressed, attrs, width, height, cursor)
 }

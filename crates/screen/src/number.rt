@@ -1,4 +1,4 @@
-// Two words on numbers.
+// A byte as an index, and the lesser of two numbers.
 ghost use mathlib.Core.Path.{_≡_};
 ghost use Prim.Native.Nat.{min};
 

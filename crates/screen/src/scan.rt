@@ -3,9 +3,9 @@ ghost use mathlib.Core.Path.{_≡_};
 ghost use Rattle.screen.specs.Fields.{firstFrom, lastBefore};
 ghost use Rattle.screen.specs.Scans.{isTarget};
 use crate::attribute::is_guarded;
-use crate::field::opens_at;
-use crate::field::starts_at;
 use crate::number::least;
+use crate::start::opens_at;
+use crate::start::starts_at;
 
 // What a scan looks for.
 pub enum Target {
@@ -22,7 +22,7 @@ fn is_target(attrs: &[u8], target: Target, cell: usize) -> bool
         Target::FieldStart => starts_at(attrs, cell),
         Target::UnprotectedStart => opens_at(attrs, cell),
         Target::Open(suppressed) => {
-            let guarded = is_guarded(attrs, cell, suppressed);
+            let guarded = is_guarded(suppressed, attrs, cell);
             !guarded
         }
     }

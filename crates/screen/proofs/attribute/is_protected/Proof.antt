@@ -1,5 +1,5 @@
 -- `is_protected` meets its contract.
-use borrow.Author.Needs.{needs}
+use Rattle.screen.proofs.Kit.{needs}
 use Rattle.screen.specs.Attributes.{protectedAt}
 use Rattle.screen.proofs.attribute.is_protected.Statement.{statement}
 use Rattle.screen.proofs.attribute.is_protected.Tie as tie
@@ -9,6 +9,5 @@ unfolding protectedAt
 is-protected-spec =
     tie.close
     (tie.spec
-    (λ c κs. search needs)
-    (λ c κs. search needs)
+    (search needs) (search needs)
     (λ c. rw (c .protection .ensures, c .before .attribute-at .ensures)))

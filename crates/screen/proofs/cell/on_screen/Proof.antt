@@ -1,5 +1,5 @@
 -- `on_screen` meets its contract.
-use borrow.Author.Tests.{lt-ltb, le-ltb}
+use Rattle.screen.proofs.Kit.{lt-ltb, le-ltb}
 use Rattle.screen.proofs.cell.on_screen.Statement.{statement}
 use Rattle.screen.proofs.cell.on_screen.Tie as tie
 

@@ -1,8 +1,5 @@
 -- `place_of` meets its contract: a cell below 256 lines of a byte's width has a place of two bytes.
-use Prim.Native.Nat.{_*_}
-use native.Mathlib.Omega.{arith}
-use borrow.Author.Needs.{needs}
-use borrow.Author.Tests.{lt-ltb, le-ltb}
+use Rattle.screen.proofs.Kit.{_*_, arith, needs, lt-ltb, le-ltb}
 use Rattle.screen.specs.Cells.{placeOrOrigin}
 use Rattle.screen.proofs.CellLaws.{place-on-screen}
 use Rattle.screen.proofs.cell.place_of.Statement.{statement}
@@ -13,11 +10,9 @@ unfolding placeOrOrigin
 place-of-spec =
     tie.close
     (tie.spec
-    (λ c κs. search needs)
-    (λ c. search needs)
-    (λ c. search needs)
+    (search needs) (search needs) (search needs)
     (λ c. omega (arith, place-on-screen (c .before .wide .result) 256 (c .before .before .args .cell) (c .if1 .taken)))
-    (λ c. search needs)
+    (search needs)
     (λ c. omega (arith, place-on-screen (c .before .wide .result) 256 (c .before .before .args .cell) (c .if1 .taken)))
     (λ c. let a = c .before .before .args in rw (c .before .wide .ensures, lt-ltb (a .cell) (256 * a .width) (omega arith)))
     (λ c. let a = c .before .before .args in rw (le-ltb (a .cell) (256 * a .width) (omega arith))))

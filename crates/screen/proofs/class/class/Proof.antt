@@ -1,5 +1,5 @@
 -- `class` meets its contract: the whole table is computed once from the rule.
-use borrow.Author.Needs.{needs}
+use Rattle.screen.proofs.Kit.{needs}
 use Rattle.screen.specs.Words.{tabulate}
 use Rattle.screen.specs.Classes.{classOf}
 use Rattle.screen.proofs.WordLaws.{getD-tabulate}
@@ -11,5 +11,5 @@ unfolding tabulate classOf
 class-spec =
     tie.close
     (tie.spec
-    (λ c. search needs)
+    (search needs)
     (λ c. getD-tabulate classOf 256 (c .args .byte) 0 (search needs)))

@@ -1,10 +1,5 @@
 -- `takes_typed` meets its contract: an entry's two bits are the two classes.
-use mathlib.Core.Path.{_≡_, refl}
-use mathlib.Core.Bool.{Bool, true, false}
-use Prim.Native.Nat.{ℕ, _+_, _%_, _/_}
-use lib.Dec.{eqb}
-use borrow.Author.Needs.{needs}
-use borrow.Author.Tests.{ne-eqb}
+use Rattle.screen.proofs.Kit.{_≡_, refl, Bool, true, false, ℕ, _+_, _%_, _/_, eqb, needs, ne-eqb}
 use Rattle.screen.specs.Words.{if_then_else_}
 use Rattle.screen.specs.Classes.{alphabetic, numeric, classOf, takes}
 use Rattle.screen.proofs.class.takes_typed.Statement.{statement}
@@ -26,8 +21,7 @@ unfolding takes
 takes-typed-spec =
     tie.close
     (tie.spec
-    (λ c κs. search needs)
-    (λ c κs. search needs)
+    (search needs) (search needs)
     (λ c. rw (c .before .before .class .ensures, ← c .before .protection .ensures, c .match .keys1) (bits _ .0))
     (λ c. rw (c .before .before .class .ensures, ← c .before .protection .ensures, c .match .keys2) (bits _ .1))
     (λ c. let r = c .match .rest in

@@ -1,12 +1,5 @@
 -- `erase` meets its contract: the cells below i are done.
-use native.Mathlib.Omega.{arith}
-use mathlib.Core.Bool.{not, _&&_}
-use mathlib.Core.Logic.{⊎-elim}
-use mathlib.Core.Path.{sym, ap, _∙_}
-use Prim.Native.Nat.{_-_, _≤_, _<_}
-use lib.ListN.{length}
-use borrow.Author.Needs.{needs}
-use borrow.Author.Tests.{not-true, not-false}
+use Rattle.screen.proofs.Kit.{sym, ap, _∙_, ⊎-elim, not, _&&_, _-_, _≤_, _<_, arith, length, needs, not-true, not-false}
 use Rattle.screen.specs.Words.{inRange}
 use Rattle.screen.specs.Attributes.{guardedAt}
 use Rattle.screen.specs.Edits.{erased}
@@ -19,15 +12,12 @@ unfolding erased
 erase-spec =
     tie.close
     (tie.spec
-    (λ chars₀ attrs from end suppressed stop i₀ chars i. (from ≤ i) × Storing (λ k. inRange from end k && not (guardedAt suppressed attrs k)) 32 32 chars₀ i chars)
-    (λ chars₀ attrs from end suppressed stop i₀ chars i. stop - i)
-    (λ c κs. search needs)
+    (λ suppressed chars₀ attrs from end stop i₀ chars i. (from ≤ i) × Storing (λ k. inRange from end k && not (guardedAt suppressed attrs k)) 32 32 chars₀ i chars)
+    (λ suppressed chars₀ attrs from end stop i₀ chars i. stop - i)
+    (search needs)
     (λ c. let a = c .before .before .before .args in
     (omega arith, storing-start (λ k h. rw (before-range (a .from) (a .end) k h))))
-    (λ c κs. search needs)
-    (λ c. search needs)
-    (λ c. search needs)
-    (λ c. search needs)
+    (search needs) (search needs) (search needs) (search needs)
     (λ c. let l = c .before .before .before .loop in
     let a = c .before .before .before .before .before .before .before .args in
     let r = in-range (a .from) (a .end) (l .i) (omega arith) (omega arith) in
@@ -39,6 +29,6 @@ erase-spec =
           (λ w. rw (w .1) (storing-miss (l .inv .1) h (rw r (ap not (g ∙ not-false _ (w .0 .left))))))
           (c .if1 .came),
     ))
-    (λ c. search needs)
+    (search needs)
     (λ c. let a = c .before .before .before .before .before .args in
     storing-end (c .before .loop .inv .1) (λ k p q. rw (after-range (a .from) (a .end) k (omega arith)))))

@@ -1,7 +1,5 @@
 -- `format` meets its contract: the cells below i are done.
-use native.Mathlib.Omega.{arith}
-use Prim.Native.Nat.{_-_, _≤_}
-use borrow.Author.Needs.{needs}
+use Rattle.screen.proofs.Kit.{_-_, _≤_, arith, needs}
 use Rattle.screen.specs.Words.{inRange}
 use Rattle.screen.specs.Edits.{formatted}
 use Rattle.screen.proofs.ListLaws.{Storing, storing-start, storing-hit, storing-end, in-range, before-range, after-range}
@@ -15,14 +13,12 @@ format-spec =
     (tie.spec
     (λ attrs₀ from end attr stop i₀ attrs i. (from ≤ i) × Storing (inRange from end) attr 8 attrs₀ i attrs)
     (λ attrs₀ from end attr stop i₀ attrs i. stop - i)
-    (λ c κs. search needs)
+    (search needs)
     (λ c. (omega arith, storing-start (before-range _ _)))
-    (λ c. search needs)
-    (λ c. search needs)
-    (λ c. search needs)
+    (search needs) (search needs) (search needs)
     (λ c. let l = c .before .loop in
     let a = c .before .before .before .before .args in
     (omega arith, storing-hit (l .inv .1) (omega arith) (in-range (a .from) (a .end) (l .i) (omega arith) (omega arith))))
-    (λ c. search needs)
+    (search needs)
     (λ c. let a = c .before .before .before .before .args in
     storing-end (c .before .loop .inv .1) (λ k p q. after-range (a .from) (a .end) k (omega arith))))

@@ -1,8 +1,5 @@
 -- `from_ahead` meets its contract.
-use borrow.Author.Needs.{needs}
-use borrow.Author.Tests.{lt-ltb, le-ltb}
-use native.Mathlib.Omega.{arith}
-use Prim.Native.Nat.{_-_}
+use Rattle.screen.proofs.Kit.{_-_, arith, needs, lt-ltb, le-ltb}
 use Rattle.screen.proofs.WordLaws.{getD-within}
 use Rattle.screen.proofs.edit.from_ahead.Statement.{statement}
 use Rattle.screen.proofs.edit.from_ahead.Tie as tie
@@ -11,7 +8,7 @@ pub from-ahead-spec : {M : Type 1} → statement M
 from-ahead-spec =
     tie.close
     (tie.spec
-    (λ c. search needs)
+    (search needs)
     (λ c. rw (lt-ltb _ _ (c .if1 .taken)))
     (λ c. let a = c .before .before .args in
     rw (le-ltb _ _ (c .before .if1 .left)) (getD-within (a .part .now) (a .i - a .by) 0 32 (omega arith))))

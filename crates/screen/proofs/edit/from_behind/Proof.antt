@@ -1,9 +1,5 @@
 -- `from_behind` meets its contract.
-use borrow.Author.Needs.{needs}
-use native.Mathlib.Omega.{arith}
-use Prim.Native.Nat.{_+_}
-use mathlib.Core.Path.{sym}
-use lib.ListN.{List·getD-eq-default}
+use Rattle.screen.proofs.Kit.{sym, _+_, arith, List·getD-eq-default, needs}
 use Rattle.screen.proofs.WordLaws.{getD-within}
 use Rattle.screen.proofs.edit.from_behind.Statement.{statement}
 use Rattle.screen.proofs.edit.from_behind.Tie as tie
@@ -12,8 +8,6 @@ pub from-behind-spec : {M : Type 1} → statement M
 from-behind-spec =
     tie.close
     (tie.spec
-    (λ c. search needs)
-    (λ c. search needs)
-    (λ c. search needs)
+    (search needs) (search needs) (search needs)
     (λ c. let a = c .before .before .args in getD-within (a .part .now) (a .i + a .by) 0 32 (omega arith))
     (λ c. let a = c .before .args in sym (List·getD-eq-default (a .part .now) 32 {n = a .i + a .by} (omega arith))))

@@ -1,5 +1,5 @@
 -- `lies_in` meets its contract.
-use borrow.Author.Tests.{le-leb, lt-leb}
+use Rattle.screen.proofs.Kit.{le-leb, lt-leb}
 use Rattle.screen.proofs.edit.lies_in.Statement.{statement}
 use Rattle.screen.proofs.edit.lies_in.Tie as tie
 

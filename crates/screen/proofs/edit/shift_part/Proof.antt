@@ -1,5 +1,5 @@
 -- `shift_part` meets its contract: one case for each shift.
-use borrow.Author.Needs.{needs}
+use Rattle.screen.proofs.Kit.{needs}
 use Rattle.screen.specs.Edits.{shifted}
 use Rattle.screen.proofs.edit.shift_part.Statement.{statement}
 use Rattle.screen.proofs.edit.shift_part.Tie as tie
@@ -9,11 +9,7 @@ unfolding shifted
 shift-part-spec =
     tie.close
     (tie.spec
-    (λ c. search needs)
-    (λ c κs. search needs)
-    (λ c. search needs)
-    (λ c κs. search needs)
-    (λ c. search needs)
+    (search needs) (search needs) (search needs) (search needs) (search needs)
     (λ c. let s = c .before .before in rw (s .before .before .enum-told .given .1) (s .shift-up .ensures))
-    (λ c. search needs)
+    (search needs)
     (λ c. let s = c .before .before in rw (s .before .before .enum-told2 .given .1) (s .shift-down .ensures)))

@@ -1,9 +1,5 @@
 -- `shift_up` meets its contract: the places from i on are done, and those below i, which are read, are as they were.
-use native.Mathlib.Omega.{arith}
-use mathlib.Core.Path.{refl, _∙_}
-use Prim.Native.Nat.{_-_, _≤_}
-use lib.ListN.{length, getD}
-use borrow.Author.Needs.{needs}
+use Rattle.screen.proofs.Kit.{refl, _∙_, _-_, _≤_, arith, length, getD, needs}
 use Rattle.screen.specs.Edits.{inserted, insertedCell}
 use Rattle.screen.proofs.ListLaws.{Seam, seam-down, seam-all, same-read}
 use Rattle.screen.proofs.edit.shift_up.Statement.{statement}
@@ -17,13 +13,10 @@ shift-up-spec =
     (λ part₀ by i₀ part i. (i ≤ length part₀) × Seam (λ k. getD part₀ k 0) (insertedCell by part₀) (length part₀) i part)
     (λ part₀ by i₀ part i. i)
     (λ c. (omega arith, record { long = refl; below = λ k a b. refl; above = λ k a b. absurd (omega arith) }))
-    (λ c. search needs)
-    (λ c κs. search needs)
-    (λ c. search needs)
-    (λ c. search needs)
+    (search needs) (search needs) (search needs) (search needs)
     (λ c. let l = c .before .before .before .loop in
     let a = c .before .before .before .before .before .args in
     let read = same-read (l .part) (a .part .now) (l .i - 1 - a .by) 32 (l .inv .1 .long) (λ h. l .inv .1 .below _ (omega arith) h) in
     (omega arith, seam-down (l .inv .1) _ (omega arith) (omega arith) (c .from-ahead .ensures ∙ rw read)))
-    (λ c. search needs)
+    (search needs)
     (λ c. seam-all (c .before .loop .inv .1) _ (λ k a b. absurd (omega arith)) (λ k a b. refl)))

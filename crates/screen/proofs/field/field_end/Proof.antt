@@ -1,8 +1,5 @@
 -- `field_end` meets its contract: from a cell past the last one the scan finds nothing.
-use mathlib.Core.Path.{sym}
-use Prim.Native.Nat.{_+_}
-use native.Mathlib.Omega.{arith}
-use borrow.Author.Needs.{needs}
+use Rattle.screen.proofs.Kit.{sym, _+_, arith, needs}
 use Rattle.screen.specs.Fields.{fieldEnd}
 use Rattle.screen.specs.Scans.{isTarget}
 use Rattle.screen.proofs.WordLaws.{first-end}
@@ -14,7 +11,6 @@ unfolding fieldEnd isTarget
 field-end-spec =
     tie.close
     (tie.spec
-    (λ c. search needs)
-    (λ c κs. search needs)
+    (search needs) (search needs)
     (λ c. c .first .ensures)
     (λ c. sym (first-end _ _ (c .before .before .args .cell + 1) _ (omega arith))))

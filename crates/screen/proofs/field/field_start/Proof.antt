@@ -1,9 +1,5 @@
 -- `field_start` meets its contract: from a cell past the last one the scan starts at the end.
-use mathlib.Core.Path.{_≡_, _∙_}
-use Prim.Native.Nat.{_+_, min}
-use native.Mathlib.Omega.{arith}
-use borrow.Author.Needs.{needs}
-use lib.ListN.{length}
+use Rattle.screen.proofs.Kit.{_≡_, _∙_, _+_, min, arith, length, needs}
 use Rattle.screen.specs.Fields.{fieldStart}
 use Rattle.screen.specs.Scans.{isTarget}
 use Rattle.screen.proofs.field.field_start.Statement.{statement}
@@ -14,9 +10,7 @@ unfolding fieldStart isTarget
 field-start-spec =
     tie.close
     (tie.spec
-    (λ c. search needs)
-    (λ c κs. search needs)
-    (λ c κs. search needs)
+    (search needs) (search needs) (search needs)
     (λ c. c .last .ensures)
     (λ c. let a = c .before .before .before .args in
     let n = length (a .attrs .now) in

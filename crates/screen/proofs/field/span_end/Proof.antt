@@ -1,5 +1,5 @@
 -- `span_end` meets its contract.
-use borrow.Author.Needs.{needs}
+use Rattle.screen.proofs.Kit.{needs}
 use Rattle.screen.specs.Fields.{spanEnd}
 use Rattle.screen.proofs.field.span_end.Statement.{statement}
 use Rattle.screen.proofs.field.span_end.Tie as tie
@@ -10,6 +10,5 @@ span-end-spec =
     tie.close
     (tie.spec
     (λ c. rw (c .if1 .taken))
-    (λ c κs. search needs)
-    (λ c κs. search needs)
+    (search needs) (search needs)
     (λ c. rw (c .before .before .if1 .left, ← c .before .field-end .ensures) (c .least .ensures)))

@@ -1,9 +1,5 @@
 -- `first` meets its contract. The loop's invariant: the answer from the start is the answer from here.
-use mathlib.Core.Path.{_≡_, refl, sym, _∙_}
-use Prim.Native.Nat.{_-_}
-use native.Mathlib.Omega.{arith}
-use borrow.Author.Needs.{needs}
-use lib.ListN.{length}
+use Rattle.screen.proofs.Kit.{_≡_, refl, sym, _∙_, _-_, arith, length, needs}
 use Rattle.screen.specs.Fields.{firstFrom}
 use Rattle.screen.specs.Scans.{isTarget}
 use Rattle.screen.proofs.WordLaws.{first-hit, first-skip, first-end}
@@ -17,7 +13,7 @@ first-spec =
     (λ attrs target from none cell₀ cell. firstFrom (isTarget attrs target) attrs from none ≡ firstFrom (isTarget attrs target) attrs cell none)
     (λ attrs target from none cell₀ cell. length attrs - cell)
     (λ c. refl)
-    (λ c κs. search needs)
+    (search needs)
     (λ c. let l = c .before .before .before in
     sym (l .loop .inv ∙ first-hit _ _ (l .loop .cell) _ (omega arith) (sym (c .before .is-target .ensures) ∙ c .if1 .taken)))
     (λ c. omega arith)

@@ -1,7 +1,5 @@
 -- `last` meets its contract. The loop's invariant: the answer from the start is the answer from here.
-use mathlib.Core.Path.{_≡_, sym, _∙_}
-use native.Mathlib.Omega.{arith}
-use borrow.Author.Needs.{needs}
+use Rattle.screen.proofs.Kit.{_≡_, sym, _∙_, arith, needs}
 use Rattle.screen.specs.Words.{lastOf}
 use Rattle.screen.specs.Fields.{lastBefore}
 use Rattle.screen.specs.Scans.{isTarget}
@@ -16,10 +14,10 @@ last-spec =
     (tie.spec
     (λ attrs target before none cell₀ cell. lastBefore (isTarget attrs target) attrs before none ≡ lastOf (isTarget attrs target) none cell)
     (λ attrs target before none cell₀ cell. cell)
-    (λ c κs. search needs)
+    (search needs)
     (λ c. rw (c .least .ensures))
     (λ c. omega arith)
-    (λ c κs. search needs)
+    (search needs)
     (λ c. let l = c .before .before .before in
     sym (l .loop .inv ∙ last-hit _ _ (l .loop .cell) (omega arith) (sym (c .before .is-target .ensures) ∙ c .if1 .taken)))
     (λ c. omega arith)

@@ -1,11 +1,5 @@
 -- `copy` meets its contract: the first i bytes stand in the reply.
-use native.Mathlib.Omega.{arith}
-use native.Mathlib.Numerals.{add-one}
-use mathlib.Core.Path.{_≡_, refl, _∙_}
-use Prim.Native.Nat.{_-_, _≤_}
-use lib.ListN.{length, length-set}
-use lib.Seq.{paste, paste-zero, paste-suc}
-use borrow.Author.Needs.{needs}
+use Rattle.screen.proofs.Kit.{_≡_, refl, _∙_, _-_, _≤_, add-one, arith, length, length-set, paste, paste-zero, paste-suc, needs}
 use Rattle.screen.proofs.text.copy.Statement.{statement}
 use Rattle.screen.proofs.text.copy.Tie as tie
 
@@ -13,17 +7,13 @@ pub copy-spec : {M : Type 1} → statement M
 copy-spec =
     tie.close
     (tie.spec
-    (λ text count reply₀ at i₀ reply i. (i ≤ count) × (length reply ≡ length reply₀) × (reply ≡ paste reply₀ at text i))
-    (λ text count reply₀ at i₀ reply i. count - i)
+    (λ text reply₀ at count i₀ reply i. (i ≤ count) × (length reply ≡ length reply₀) × (reply ≡ paste reply₀ at text i))
+    (λ text reply₀ at count i₀ reply i. count - i)
     (λ c. (omega arith, refl, paste-zero _ (c .args .at) (c .args .text .now)))
-    (λ c. search needs)
-    (λ c. search needs)
-    (λ c. search needs)
-    (λ c. search needs)
-    (λ c. search needs)
+    (search needs) (search needs) (search needs) (search needs) (search needs)
     (λ c. let l = c .before .before .loop in
     let a = c .before .before .before .args in
     let next = paste-suc (a .reply .now) (a .at) (a .text .now) (l .i) 0 (omega arith) (omega arith) in
     (omega arith, simp length-set (omega arith), rw (l .inv .2, add-one) next))
-    (λ c. search needs)
+    (search needs)
     (λ c. let e : c .before .loop .i ≡ c .before .before .args .count = omega arith in c .before .loop .inv .2 ∙ rw e))

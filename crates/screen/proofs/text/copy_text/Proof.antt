@@ -1,36 +1,28 @@
--- `copy_text` meets its contract: each way out knows whether the text fits.
-use native.Mathlib.Omega.{arith}
-use mathlib.Core.Path.{sym, _∙_}
-use lib.ListN.{length, length-drop}
-use borrow.Author.Needs.{needs}
-use borrow.Author.Tests.{not-true, not-false}
+-- `copy_text` meets its contract: by whether the text can be copied.
+use Rattle.screen.proofs.Kit.{sym, _∙_, _+_, _-_, _≤_, arith, length, length-drop, needs, not-true, not-false}
 use borrow.Rule.Slice.PartAt.{part-to-end}
-use Rattle.screen.proofs.EditLaws.{lies-ordered, lies-end, lies-start, copied-not, copied-full, copied-all}
+use Rattle.screen.proofs.EditLaws.{copy-bounds, copied-not, copied-all}
 use Rattle.screen.proofs.text.copy_text.Statement.{statement}
 use Rattle.screen.proofs.text.copy_text.Tie as tie
+
+-- what holds past the test
+bounds : (c : tie.Else1)
+    → (let a = c .before .before .before .before .args in
+    (a .from ≤ a .end) × (a .end ≤ length (a .chars .now)) × (a .at + (a .end - a .from) ≤ length (a .reply .now)))
+bounds c = copy-bounds (not-false _ (c .if1 .left)) _ _ _ _ _ (c .before .can-copy .ensures)
 
 pub copy-text-spec : {M : Type 1} → statement M
 copy-text-spec =
     tie.close
     (tie.spec
-    (λ c κs. search needs)
-    (λ c. copied-not (rw (sym (c .before .lies-in .ensures) ∙ not-true _ (c .if1 .taken))))
-    (λ c. lies-ordered (not-false _ (c .if1 .left)) _ _ _ (c .before .lies-in .ensures))
-    (λ c. copied-full (omega arith))
-    (λ c. search needs)
-    (λ c. copied-full (omega arith))
-    (λ c. let s = c .before .before in
-    let a = s .before .before .before .before .args in
-    omega (arith, lies-start (not-false _ (s .if1 .left)) (a .from) (a .end) (length (a .chars .now)) (s .before .lies-in .ensures)))
-    (λ c. let s = c .before .before in
-    let a = s .before .before .before .before .args in
-    omega (arith, lies-start (not-false _ (s .if1 .left)) (a .from) (a .end) (length (a .chars .now)) (s .before .lies-in .ensures)))
-    (λ c. search needs)
-    (λ c κs. let s = c .before .before .before .before in
-    let a = s .before .before .before .before .args in
-    let e = lies-end (not-false _ (s .if1 .left)) (a .from) (a .end) (length (a .chars .now)) (s .before .lies-in .ensures) in
-    (rw part-to-end (rw length-drop (omega arith)), omega arith))
-    (λ c. search needs)
-    (λ c. search needs)
-    (λ c. let s = c .before .before .before .before .before .before .before in
-    copied-all (sym (s .before .lies-in .ensures) ∙ not-false _ (s .if1 .left)) (omega arith) (c .before .before .copy .ensures ∙ rw part-to-end)))
+    (search needs)
+    (λ c. copied-not (sym (c .before .can-copy .ensures) ∙ not-true _ (c .if1 .taken)))
+    (λ c. bounds c .0)
+    (λ c. omega (arith, bounds c))
+    (λ c. omega (arith, bounds c))
+    (search needs)
+    (λ c κs. let b = bounds (c .before .before) in (rw part-to-end (rw length-drop (omega (arith, b))), omega (arith, b)))
+    (λ c. omega (arith, bounds (c .before .before .before .before .before)))
+    (search needs)
+    (λ c. let s = c .before .before .before .before .before in
+    copied-all (sym (s .before .can-copy .ensures) ∙ not-false _ (s .if1 .left)) (c .before .before .copy .ensures ∙ rw part-to-end)))

@@ -4,15 +4,15 @@ use mathlib.Core.Path.{sym, _∙_}
 use Prim.Native.Nat.{_-_}
 use lib.ListN.{length}
 use borrow.Author.Needs.{needs}
-use Rattle.reply.proofs.ReplyLaws.{WritingFields, writing-length, fields-start, fields-more, fields-skip, fields-all}
-use Rattle.reply.proofs.put_fields.Statement.{statement}
-use Rattle.reply.proofs.put_fields.Tie as tie
+use Rattle.reply.proofs.WriteLaws.{WritingFields, writing-length, fields-start, fields-more, fields-skip, fields-all}
+use Rattle.reply.proofs.field.put_fields.Statement.{statement}
+use Rattle.reply.proofs.field.put_fields.Tie as tie
 
 abbrev Inv-loop : tie.InvT-loop
-Inv-loop reply₀ at chars attrs next₀ first₀ cell₀ reply next first cell = WritingFields reply₀ at chars attrs reply next first cell
+Inv-loop chars attrs reply₀ at next₀ first₀ cell₀ reply next first cell = WritingFields reply₀ at chars attrs reply next first cell
 
 abbrev μ-loop : tie.MeasureT-loop
-μ-loop reply₀ at chars attrs next₀ first₀ cell₀ reply next first cell = length attrs - cell
+μ-loop chars attrs reply₀ at next₀ first₀ cell₀ reply next first cell = length attrs - cell
 
 loop-again : tie.Need-loop-again Inv-loop μ-loop
 loop-again c =
@@ -21,7 +21,7 @@ loop-again c =
     let within = o .before .loop-test .taken in
     let test = sym (o .opens-at .ensures) in
     ⊎-elim
-    (λ w. rw (w .10, w .11, w .12) (fields-more inv within (test ∙ w .0 .taken) (w .5 .ensures) (w .2 .ensures) (w .7 .ensures)))
+    (λ w. rw (w .5, w .6, w .7) (fields-more inv within (test ∙ w .0 .taken) (w .2 .ensures)))
     (λ w. rw (w .1, w .2, w .3) (fields-skip inv within (test ∙ w .0 .left)))
     (c .if1 .came)
 
@@ -32,12 +32,7 @@ put-fields-spec =
     Inv-loop
     μ-loop
     (λ c. fields-start)
-    (λ c κs. search needs)
-    (λ c κs. search needs)
-    (λ c κs. search needs)
-    (λ c κs. search needs)
-    (λ c. search needs)
-    (λ c. search needs)
+    (search needs) (search needs) (search needs) (search needs)
     loop-again
     (λ c. writing-length (c .before .loop .inv .writing))
     (λ c. fields-all (c .before .loop .inv) (c .loop-test .left)))

@@ -1,0 +1,14 @@
+-- `put_field` meets its contract: the separator, then the text.
+use borrow.Author.Needs.{needs}
+use Rattle.reply.proofs.WriteLaws.{wrote-then, copied-piece}
+use Rattle.reply.proofs.field.put_field.Statement.{statement}
+use Rattle.reply.proofs.field.put_field.Tie as tie
+
+pub put-field-spec : {M : Type 1} → statement M
+put-field-spec =
+    tie.close
+    (tie.spec
+    (search needs) (search needs) (search needs) (search needs)
+    (λ c. let f = c .before .before .before in
+    wrote-then (f .before .before .before .before .put-separator .ensures)
+    (rw (← f .field-end .ensures) (copied-piece (c .before .before .copy-text .ensures)))))

@@ -22,7 +22,8 @@ use Rattle.decide.specs.declared.decision.Say.{Say}
 use Rattle.decide.specs.declared.decision.Say.the-variants.{Silent, Negotiation, Two, Three, Preface, Text, Fields}
 use Rattle.decide.specs.Decision.{partsOf, Sendable}
 use Rattle.reply.specs.Written.{Buffer, buffer, wroteAll, Wrote}
-use Rattle.reply.specs.Pieces.{det, dataTransmit, fieldSeparator, doubledPieces, messagePieces, textPiece, fieldPieces, sayPieces}
+use Rattle.rules.specs.Number.{detOption, dataTransmit, fieldSeparator}
+use Rattle.reply.specs.Pieces.{doubledPieces, messagePieces, textPiece, fieldPieces, sayPieces}
 use Rattle.reply.specs.Reply.{Room, Emitted, Sayable}
 use Rattle.reply.proofs.WriteLaws.{whole}
 
@@ -66,11 +67,11 @@ unfolding subnegotiation doubled
 joined-message option single payload ps =
     rw (single, joined-append (messagePieces option payload) ps, joined-append (doubledPieces payload) ((iac ∷ se ∷ []) ∷ []), joined-doubled payload, append-nil)
 
-det-message : (payload : List ℕ) (ps : List (List ℕ)) → joined (messagePieces det payload ++ ps) ≡ subnegotiation det payload ++ joined ps
-det-message = joined-message det refl
+det-message : (payload : List ℕ) (ps : List (List ℕ)) → joined (messagePieces detOption payload ++ ps) ≡ subnegotiation detOption payload ++ joined ps
+det-message = joined-message detOption refl
 
-message-alone : (payload : List ℕ) → joined (messagePieces det payload) ≡ subnegotiation det payload ++ []
-message-alone payload = ap joined (sym (append-nil (messagePieces det payload))) ∙ det-message payload []
+message-alone : (payload : List ℕ) → joined (messagePieces detOption payload) ≡ subnegotiation detOption payload ++ []
+message-alone payload = ap joined (sym (append-nil (messagePieces detOption payload))) ∙ det-message payload []
 
 lies-true : {from end : ℕ} (chars : List ℕ) → from ≤ end → end ≤ length chars → lies from end chars ≡ true
 lies-true {from} {end} chars a b = rw (le-leb from end a, le-leb end (length chars) b)

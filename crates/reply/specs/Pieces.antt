@@ -10,18 +10,9 @@ use Rattle.screen.specs.Words.{if_then_else_}
 use Rattle.screen.specs.declared.cell.Place.{Place}
 use Rattle.screen.specs.Fields.{opensAt, fieldEnd}
 use Rattle.screen.specs.Edits.{lies, textOf}
+use Rattle.rules.specs.Number.{detOption, dataTransmit, fieldSeparator}
 use Rattle.decide.specs.declared.decision.Say.{Say}
 use Rattle.decide.specs.declared.decision.Say.the-variants.{Silent, Negotiation, Two, Three, Preface, Text, Fields}
-
--- the option, and two of its subcommands
-abbrev pub det : ℕ
-det = 20
-
-abbrev pub dataTransmit : ℕ
-dataTransmit = 28
-
-abbrev pub fieldSeparator : ℕ
-fieldSeparator = 39
 
 -- of a payload: IAC is written twice
 unfoldable pub doubledPieces : List ℕ → List (List ℕ)
@@ -34,7 +25,7 @@ messagePieces option payload = (iac ∷ sb ∷ option ∷ []) ∷ (doubledPieces
 
 -- Document 01, "Subcommands": before each transmission the place of its first cell
 abbrev pub prefacePieces : Place → List (List ℕ)
-prefacePieces p = messagePieces det (dataTransmit ∷ p .x .0 ∷ p .y .0 ∷ [])
+prefacePieces p = messagePieces detOption (dataTransmit ∷ p .x .0 ∷ p .y .0 ∷ [])
 
 -- the text of a range of cells: none where it does not lie in the characters
 abbrev pub textPiece : ℕ → ℕ → List ℕ → List ℕ
@@ -42,7 +33,7 @@ textPiece from end chars = if lies from end chars then textOf from end chars els
 
 -- "Subcommands", 21: between each two fields, so before every one but the first
 abbrev pub separatorPieces : Bool → List (List ℕ)
-separatorPieces first = if first then [] else messagePieces det (fieldSeparator ∷ [])
+separatorPieces first = if first then [] else messagePieces detOption (fieldSeparator ∷ [])
 
 -- the text of every unprotected field of the n cells from i on
 unfoldable pub fieldPieces : List ℕ → List ℕ → Bool → ℕ → ℕ → List (List ℕ)
@@ -56,8 +47,8 @@ fieldPieces chars attrs first i (suc n) =
 abbrev pub sayPieces : List ℕ → List ℕ → Say → List (List ℕ)
 sayPieces chars attrs Silent = []
 sayPieces chars attrs (Negotiation verb option) = negotiation verb option ∷ []
-sayPieces chars attrs (Two code a) = messagePieces det (code ∷ a ∷ [])
-sayPieces chars attrs (Three code a b) = messagePieces det (code ∷ a ∷ b ∷ [])
+sayPieces chars attrs (Two code a) = messagePieces detOption (code ∷ a ∷ [])
+sayPieces chars attrs (Three code a b) = messagePieces detOption (code ∷ a ∷ b ∷ [])
 sayPieces chars attrs (Preface p) = prefacePieces p
 sayPieces chars attrs (Text p from end) = prefacePieces p ++ (textPiece from end chars ∷ [])
 sayPieces chars attrs (Fields p) = prefacePieces p ++ fieldPieces chars attrs true 0 (length attrs)

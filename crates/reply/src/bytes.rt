@@ -2,8 +2,8 @@
 ghost use mathlib.Core.List.{[], _∷_};
 ghost use Rattle.reply.specs.Written.{Wrote};
 ghost use Rattle.reply.specs.Pieces.{doubledPieces};
-use crate::code::IAC;
 use screen::text::copy_text;
+use telnet::code::IAC;
 
 pub(crate) fn put_bytes(reply: &mut [u8], at: usize, bytes: &[u8]) -> usize
     ensures { λ r. ⌜ Wrote (now (reply .entry)) at (now (bytes .entry) ∷ []) (now (reply .exit)) r ⌝ }

@@ -2,16 +2,15 @@
 // fit is left out: nothing is asked of the caller.
 ghost use Rattle.reply.specs.Written.{Wrote};
 ghost use Rattle.reply.specs.Pieces.{sayPieces};
-use crate::code::DET;
 use crate::message::put_message;
 use crate::message::put_negotiation;
 use crate::transmission::put_form;
 use crate::transmission::put_preface;
 use crate::transmission::put_text;
+use command::number::DET;
 use decide::decision::Say;
 
 mod bytes;
-mod code;
 mod field;
 mod message;
 mod transmission;

@@ -7,19 +7,23 @@ ghost use Rattle.reply.specs.Written.{Wrote};
 ghost use Rattle.reply.specs.Pieces.{messagePieces};
 use crate::bytes::put_bytes;
 use crate::bytes::put_payload;
-use crate::code::IAC;
-use crate::code::SB;
-use crate::code::SE;
 use telnet::Verb;
+use telnet::code::DO;
+use telnet::code::DONT;
+use telnet::code::IAC;
+use telnet::code::SB;
+use telnet::code::SE;
+use telnet::code::WILL;
+use telnet::code::WONT;
 
 fn verb_code(verb: Verb) -> u8
     ensures { λ r. ⌜ r ≡ verbCode verb ⌝ }
 {
     match verb {
-        Verb::Will => 251,
-        Verb::Wont => 252,
-        Verb::Do => 253,
-        Verb::Dont => 254,
+        Verb::Will => WILL,
+        Verb::Wont => WONT,
+        Verb::Do => DO,
+        Verb::Dont => DONT,
     }
 }
 

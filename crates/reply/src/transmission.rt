@@ -4,10 +4,10 @@ ghost use mathlib.Core.List.{[], _∷_, _++_};
 ghost use lib.ListN.{length};
 ghost use Rattle.reply.specs.Written.{Wrote};
 ghost use Rattle.reply.specs.Pieces.{prefacePieces, textPiece, fieldPieces};
-use crate::code::DATA_TRANSMIT;
-use crate::code::DET;
 use crate::field::put_fields;
 use crate::message::put_message;
+use command::number::DATA_TRANSMIT;
+use command::number::DET;
 use screen::cell::Place;
 use screen::text::copy_text;
 

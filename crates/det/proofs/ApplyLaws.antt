@@ -17,7 +17,7 @@ use Rattle.decide.proofs.decision.Change.{the-type}
 use Rattle.decide.specs.declared.decision.Change.{Change}
 use Rattle.decide.specs.declared.decision.Change.the-variants.{Nothing, Put, Erase, Shift, Repeat}
 use Rattle.decide.specs.Decision.{changeOf, editsOf, Once}
-use Rattle.det.specs.Apply.{Changes}
+use Rattle.det.specs.inner.Apply.{Changes}
 
 -- what the other arm of a match on Repeat knows
 pub not-repeat : (change : Change) → OneOf (0 ∷ 1 ∷ 2 ∷ 3 ∷ []) (tagOf the-type change) → Once change

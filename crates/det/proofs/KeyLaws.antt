@@ -24,9 +24,8 @@ use Rattle.decide.specs.Writing.{pressedIfTaken}
 use Rattle.reply.specs.Pieces.{Wrote, sayPieces}
 use Rattle.reply.specs.Reply.{Sayable}
 use Rattle.reply.proofs.ReplyLaws.{said}
-use Rattle.det.specs.Apply.{Changes}
-use Rattle.det.specs.Lent.{keyTaken}
-use Rattle.det.specs.Take.{Accepts, Permits}
+use Rattle.det.specs.inner.Apply.{Changes}
+use Rattle.det.specs.inner.Take.{Accepts, keyTaken}
 use Rattle.det.proofs.ReplyLaws.{emitted-whole}
 use Rattle.det.proofs.RefuseLaws.{passed-on, failed-first}
 use Rattle.decide.proofs.DecideLaws.{fits-rule}
@@ -54,22 +53,22 @@ keeps-attributes v Delete = refl
 keeps-attributes v (Function n) = refl
 keeps-attributes v Meaningless = refl
 
-module _ {s : State} {reply : List ℕ} {code : ℕ} (p : Permits s reply code) where
+module _ (s : State) (reply : List ℕ) (code : ℕ) (p : keyRefusal s reply code ≡ Taken) where
   found : Accepted s reply
-  found = sound-of s (key code reply) (ap isTaken (p .tests))
+  found = sound-of s (key code reply) (ap isTaken p)
 
   -- host bytes would be taken too
   permits-accepts : Accepts s reply 0
-  permits-accepts = record { tests = passes (found .sound) reply (found .room) }
+  permits-accepts = passes (found .sound) reply (found .room)
 
   module _ {k : Key} (q : k ≡ keyOf code) {d : Decision} (decided : Decides (viewOf s) d (whereFits (λ v. pressedIfTaken v k))) where
     -- the key passes its own tests
     permits-key : verdict (keyTests (viewOf s) k) ≡ Taken
     unfolding sizeTests stateTests
-    permits-key = rw q (sym (passed-on _ _ refl (permits-accepts .tests)) ∙ p .tests)
+    permits-key = rw q (sym (passed-on _ _ refl permits-accepts) ∙ p)
 
     t : Decides (viewOf s) d (λ v. pressed v k)
-    t = pressed-was k refl permits-key (fits-rule _ (accepts-fits permits-accepts) decided)
+    t = pressed-was k refl permits-key (fits-rule _ (accepts-fits s reply 0 permits-accepts) decided)
 
     key-means : meant (s .screen .attrs) d ≡ shown (pressed (viewOf s) (keyOf code))
     key-means = (rw q at t) .meaning
@@ -79,7 +78,7 @@ module _ {s : State} {reply : List ℕ} {code : ℕ} (p : Permits s reply code) 
 
     -- the reply can be written
     key-sayable : Sayable (d .say) (s .screen .chars) (s .screen .attrs) reply 0
-    key-sayable = sayable permits-accepts (t .sendable) (rw (← parts) at (room-key (found .sound) code))
+    key-sayable = sayable s reply 0 permits-accepts (t .sendable) (rw (← parts) at (room-key (found .sound) code))
 
     -- and what is done is what the key does
     pub key-settled : {f : Frame} {chars reply′ : List ℕ} {written : ℕ}

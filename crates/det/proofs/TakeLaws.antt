@@ -26,11 +26,11 @@ use Rattle.det.specs.declared.apply.Applied.{Applied}
 use Rattle.command.specs.Frame.{Fits}
 use Rattle.decide.specs.Decision.{meant, shown, partsOf, Sendable, Decides}
 use Rattle.reply.specs.Reply.{Room, Emitted, Sayable}
-use Rattle.det.specs.Apply.{Changes, Applies}
-use Rattle.det.specs.Take.{Accepts, Answerable}
+use Rattle.det.specs.inner.Apply.{Changes, Applies, Answerable}
+use Rattle.det.specs.inner.Take.{Accepts}
 use Rattle.det.proofs.ReplyLaws.{emitted-none}
 
--- ---- what the reader told, done
+-- ---- what is done on an event
 
 -- an effect that is decided by a rule
 module _ {e : Effect} {f : Frame} {b : Screen} {reply : List ℕ} {at : ℕ} (a : Answerable e f b reply at)
@@ -88,12 +88,12 @@ data-applies f byte {b = b} k p =
 
 -- what a call that is not refused finds
 pub accepts-start : (s : State) (reply : List ℕ) {why : Refusal} → why ≡ hostRefusal s reply → why ≡ Taken → Accepts s reply 0
-accepts-start s reply e t = record { tests = sym e ∙ t }
+accepts-start s reply e t = sym e ∙ t
 
-module _ {s : State} {reply : List ℕ} {at : ℕ} (a : Accepts s reply at) where
+module _ (s : State) (reply : List ℕ) (at : ℕ) (a : Accepts s reply at) where
   -- and what it knows
   pub accepted : Accepted s (drop at reply)
-  accepted = sound-of s (host [] (drop at reply)) (ap isTaken (a .tests))
+  accepted = sound-of s (host [] (drop at reply)) (ap isTaken a)
 
   -- what a decision asks
   pub accepts-fits : Fits (viewOf s)

@@ -16,7 +16,7 @@ use Rattle.decide.proofs.text.Fate.{the-type}
 use Rattle.decide.specs.declared.text.Writing.{Writing}
 use Rattle.decide.specs.Writing.{placeAfter, ifWritten, afterFate, effectOf, Writes}
 use Rattle.decide.proofs.WriteLaws.{by-fate, not-written, effect-is}
-use Rattle.det.specs.Apply.{Changes}
+use Rattle.det.specs.inner.Apply.{Changes}
 
 module _ {v : View} {c : ℕ} {w : Writing} (one : Writes v Host c w) where
   host-by-fate : hostCharacter v c

@@ -1,3 +1,2 @@
 pub mod Lent
-pub mod Apply
-pub mod Take
+pub mod inner

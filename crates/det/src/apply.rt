@@ -1,13 +1,13 @@
-// A decision, applied: the reply is written from the characters as they are, then the characters change, then the attribute bytes.
+// A decision is applied: the reply is written from the characters as they are, then the characters change, then the attribute bytes.
 ghost use mathlib.Core.Path.{_≡_};
 ghost use Rattle.rules.specs.Effect.{changedAll};
 ghost use Rattle.command.specs.Frame.{seen};
 ghost use Rattle.decide.specs.Decision.{changeOf, editsOf, attrsOf, meant};
 ghost use Rattle.reply.specs.Reply.{Sayable};
 ghost use Rattle.det.specs.Lent.{lent};
-ghost use Rattle.det.specs.Apply.{Changes, Applies};
-use crate::data::put;
+ghost use Rattle.det.specs.inner.Apply.{Changes, Applies};
 use crate::data::put_character;
+use crate::data::set_cell;
 use decide::decision::Change;
 use decide::decision::Decision;
 use decide::decision::Format;
@@ -28,7 +28,7 @@ fn change_cells(change: Change, chars: &mut [u8], attrs: &[u8])
 {
     match change {
         Change::Nothing => {}
-        Change::Put { cell, byte } => put(chars, cell, byte),
+        Change::Put { cell, byte } => set_cell(chars, cell, byte),
         Change::Erase {
             suppressed,
             from,

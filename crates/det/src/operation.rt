@@ -3,8 +3,8 @@ ghost use mathlib.Core.Path.{_≡_};
 ghost use mathlib.Core.List.{[]};
 ghost use Rattle.rules.specs.Session.{fresh, state};
 ghost use Rattle.rules.specs.Operation.{outcome, opened, hostBytes, keyRefusal, oneKey};
-ghost use Rattle.det.specs.Lent.{lent, refusedAnswer, hostTaken, keyTaken};
-ghost use Rattle.det.specs.Take.{Accepts, Permits};
+ghost use Rattle.det.specs.Lent.{lent};
+ghost use Rattle.det.specs.inner.Take.{Accepts, refusedAnswer, hostTaken, keyTaken};
 use crate::apply::change_chars;
 use crate::refuse::refuse;
 use crate::refuse::refuse_sizes;
@@ -113,7 +113,7 @@ fn refuse_key(session: Session, code: u8, chars: &[u8], attrs: &[u8], reply: &[u
 
 // A key that is not refused.
 fn take_key(session: Session, code: u8, chars: &mut [u8], attrs: &[u8], reply: &mut [u8]) -> Answer
-    requires { ⌜ Permits (state session (lent chars attrs)) (now reply) code ⌝ }
+    requires { ⌜ keyRefusal (state session (lent chars attrs)) (now reply) code ≡ Refusal.Taken ⌝ }
     ensures { λ r. ⌜ outcome r (lent (chars .exit) (attrs .entry)) (now (reply .exit))
         ≡ keyTaken (state session (lent (chars .entry) (attrs .entry))) (now (reply .entry)) code ⌝ }
 {

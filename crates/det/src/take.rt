@@ -1,18 +1,19 @@
-// Host bytes, a turn at a time: a run of data, a run of a subnegotiation's bytes, or one byte that is read and what it told, done.
+// Host bytes, a turn at a time: a stretch of data, a stretch of a subnegotiation's bytes, or one byte.
 ghost use mathlib.Core.Path.{_≡_};
 ghost use Prim.Native.Nat.{_<_};
 ghost use lib.ListN.{length};
+ghost use Rattle.telnet.specs.declared.Phase.the-variants.{Rest, Inside};
 ghost use Rattle.rules.specs.Session.{Screen, session, state};
 ghost use Rattle.rules.specs.Operation.{happening};
 ghost use Rattle.command.specs.Frame.{seen};
 ghost use Rattle.det.specs.Lent.{lent};
-ghost use Rattle.det.specs.Apply.{Applies};
-ghost use Rattle.det.specs.Take.{Accepts, Answerable, atRest, insideOf, Turned, QuietTurn};
+ghost use Rattle.det.specs.inner.Apply.{Answerable, Applies};
+ghost use Rattle.det.specs.inner.Take.{Accepts, turnedTo, Taking, QuietTurn};
 use crate::apply::Applied;
 use crate::apply::apply;
+use crate::data::host_text;
 use crate::data::take_data;
-use crate::data::take_run;
-use crate::held::hold_run;
+use crate::held::hold_all;
 use command::held::held_after;
 use decide::negotiate::negotiate;
 use decide::obey::decide_end;
@@ -22,6 +23,7 @@ use rules::Reader;
 use telnet::Event;
 use telnet::Phase;
 use telnet::read;
+use telnet::stretch::stretch_at;
 
 // Where some bytes leave the frame and the reader, where they end in the input, and where the next reply goes.
 pub struct Turn {
@@ -40,7 +42,7 @@ fn nothing(frame: Frame, at: usize) -> Applied
     }
 }
 
-// What the reader told, done. `held` is what was held before.
+// Does what an event asks for. `held` is what was held before it.
 fn happen(
     frame: Frame,
     held: Held,
@@ -86,9 +88,9 @@ fn take_byte(
 ) -> Turn
     requires { ⌜ Accepts (state (session frame reader) (lent chars attrs)) (now reply) at ⌝ }
     requires { ⌜ from < length (now input) ⌝ }
-    ensures { λ r. ⌜ Turned (state (session frame reader) (lent (chars .entry) (attrs .entry)))
-        (now (input .entry)) from (now (reply .entry)) at
-        r (lent (chars .exit) (attrs .exit)) (now (reply .exit)) ⌝ }
+    ensures { λ r. ⌜ from < r .end ⌝ }
+    ensures { λ r. ⌜ Taking (state (session frame reader) (lent (chars .entry) (attrs .entry))) (now (input .entry)) from
+        (now (reply .entry)) at (turnedTo r (lent (chars .exit) (attrs .exit))) (r .end) (now (reply .exit)) (r .written) ⌝ }
 {
     let phase = reader.phase;
     let held = reader.held;
@@ -111,71 +113,66 @@ fn take_byte(
 // At rest: the data up to the next IAC, and that IAC.
 fn take_text(
     frame: Frame,
-    held: Held,
+    reader: Reader,
     input: &[u8],
     from: usize,
     chars: &mut [u8],
     attrs: &[u8],
     at: usize,
 ) -> Turn
+    requires { ⌜ reader .phase ≡ Rest ⌝ }
     requires { ⌜ from < length (now input) ⌝ }
-    ensures { λ r. ⌜ QuietTurn (state (atRest frame held) (lent (chars .entry) (attrs .entry))) (now (input .entry)) from at
+    ensures { λ r. ⌜ QuietTurn (state (session frame reader) (lent (chars .entry) (attrs .entry))) (now (input .entry)) from at
         r (lent (chars .exit) (attrs .entry)) ⌝ }
 {
-    let run = take_run(frame, input, from, chars, attrs);
-    let after = run.frame;
-    if run.end < input.len() {
-        return Turn {
-            frame: after,
-            reader: Reader {
-                phase: Phase::Iac,
-                held: held,
-            },
-            end: run.end + 1,
-            written: at,
-        };
-    }
+    let phase = reader.phase;
+    let stretch = stretch_at(phase, input, from);
+    let end = stretch.end;
+    let after = host_text(frame, &input[from..end], chars, attrs);
+    let next = stretch.phase;
+    let held = reader.held;
     Turn {
         frame: after,
         reader: Reader {
-            phase: Phase::Rest,
+            phase: next,
             held: held,
         },
-        end: run.end,
+        end: stretch.next,
         written: at,
     }
 }
 
-// In a subnegotiation: its bytes up to the next IAC, and that IAC.
-fn take_payload(frame: Frame, option: u8, held: Held, input: &[u8], from: usize, at: usize) -> Turn
+// In the subnegotiation of this option: its bytes up to the next IAC, and that IAC.
+fn take_payload(
+    frame: Frame,
+    option: u8,
+    reader: Reader,
+    input: &[u8],
+    from: usize,
+    at: usize,
+) -> Turn
+    requires { ⌜ reader .phase ≡ Inside option ⌝ }
     requires { ⌜ from < length (now input) ⌝ }
-    ensures { λ r. ⌜ ((b : Screen) → QuietTurn (state (insideOf frame option held) b) (now (input .entry)) from at r b) ⌝ }
+    ensures { λ r. ⌜ ((b : Screen) → QuietTurn (state (session frame reader) b) (now (input .entry)) from at r b) ⌝ }
 {
-    let run = hold_run(held, input, from);
-    let after = run.held;
-    if run.end < input.len() {
-        return Turn {
-            frame: frame,
-            reader: Reader {
-                phase: Phase::InsideIac(option),
-                held: after,
-            },
-            end: run.end + 1,
-            written: at,
-        };
-    }
+    let phase = reader.phase;
+    let stretch = stretch_at(phase, input, from);
+    let end = stretch.end;
+    let held = reader.held;
+    let after = hold_all(held, &input[from..end]);
+    let next = stretch.phase;
     Turn {
         frame: frame,
         reader: Reader {
-            phase: Phase::Inside(option),
+            phase: next,
             held: after,
         },
-        end: run.end,
+        end: stretch.next,
         written: at,
     }
 }
 
-// A run where the reader stands in one, else a byte: the phase is looked at once for either.
+// A stretch where the reader stands in one, else a byte: the phase is looked at once for either.
 pub(crate) fn take_turn(
     frame: Frame,
     reader: Reader,
@@ -188,15 +185,14 @@ pub(crate) fn take_turn(
 ) -> Turn
     requires { ⌜ Accepts (state (session frame reader) (lent chars attrs)) (now reply) at ⌝ }
     requires { ⌜ from < length (now input) ⌝ }
-    ensures { λ r. ⌜ Turned (state (session frame reader) (lent (chars .entry) (attrs .entry)))
-        (now (input .entry)) from (now (reply .entry)) at
-        r (lent (chars .exit) (attrs .exit)) (now (reply .exit)) ⌝ }
+    ensures { λ r. ⌜ from < r .end ⌝ }
+    ensures { λ r. ⌜ Taking (state (session frame reader) (lent (chars .entry) (attrs .entry))) (now (input .entry)) from
+        (now (reply .entry)) at (turnedTo r (lent (chars .exit) (attrs .exit))) (r .end) (now (reply .exit)) (r .written) ⌝ }
 {
     let phase = reader.phase;
-    let held = reader.held;
     match phase {
-        Phase::Rest => take_text(frame, held, input, from, chars, attrs, at),
-        Phase::Inside(option) => take_payload(frame, option, held, input, from, at),
+        Phase::Rest => take_text(frame, reader, input, from, chars, attrs, at),
+        Phase::Inside(option) => take_payload(frame, option, reader, input, from, at),
         _ => take_byte(frame, reader, input, from, chars, attrs, reply, at),
     }
 }

@@ -4,7 +4,7 @@
 ghost use mathlib.Core.Path.{_≡_};
 ghost use Rattle.telnet.specs.Reader.{afterIac, thrownAway, opening, openingIac, inside, insideIac, readOf};
 
-pub mod run;
+pub mod stretch;
 
 // The four commands that take an option byte.
 pub enum Verb {

@@ -9,17 +9,11 @@ unfolding changed changedAll
 change-cells-spec =
     tie.close
     (tie.spec
-    (λ c. search needs)
-    (λ c. search needs)
-    (λ c. search needs)
-    (λ c. search needs)
-    (λ c κs. search needs)
-    (λ c. search needs)
-    (λ c κs. search needs)
-    (λ c. search needs)
+    (λ c. search needs) (λ c. search needs) (λ c. search needs) (λ c. search needs) (λ c κs. search needs) (λ c. search needs)
+    (λ c κs. search needs) (λ c. search needs)
     (λ c. rw (c .enum-told .given .1))
     (λ c. search needs)
-    (λ c. let p = c .before .before in rw (p .before .before .before .change .given .1) (p .put .ensures))
+    (λ c. let p = c .before .before in rw (p .before .before .before .change .given .1) (p .set-cell .ensures))
     (λ c. search needs)
     (λ c. let p = c .before .before in rw (p .before .before .before .change2 .given .1) (p .erase .ensures))
     (λ c. search needs)

@@ -8,13 +8,10 @@ pub change-chars-spec : {M : Type 1} → statement M
 change-chars-spec =
     tie.close
     (tie.spec
-    (λ c. search needs)
-    (λ c κs. search needs)
-    (λ c. search needs)
+    (λ c. search needs) (λ c κs. search needs) (λ c. search needs)
     (λ c. let d = c .before .before in
     let m = d .before .before in
     let change = m .before .before .before .args .change in
     changes-once change (not-repeat change (m .match .keys2)) (d .change-cells .ensures))
-    (λ c κs. search needs)
-    (λ c. search needs)
+    (λ c κs. search needs) (λ c. search needs)
     (λ c. let d = c .before .before in rw (d .before .before .before .change .given .1) (d .repeat .ensures)))

@@ -11,9 +11,7 @@ unfolding hostData
 take-data-spec =
     tie.close
     (tie.spec
-    (λ c κs. search needs)
-    (λ c κs. search needs)
-    (λ c. search needs)
+    (λ c κs. search needs) (λ c κs. search needs) (λ c. search needs)
     (λ c. let p = c .before .before in
     let i = p .before .before in rw (← i .before .is-printable .ensures, i .if1 .taken) (p .put-character .ensures))
     (λ c κs. search needs)

@@ -11,47 +11,29 @@ unfolding happening
 happen-spec =
     tie.close
     (tie.spec
-    (λ c. search needs)
-    (λ c κs. search needs)
-    (λ c. search needs)
-    (λ c κs. search needs)
-    (λ c κs. search needs)
-    (λ c. search needs)
+    (λ c. search needs) (λ c κs. search needs) (λ c. search needs) (λ c κs. search needs) (λ c κs. search needs) (λ c. search needs)
     (λ c κs. search needs)
     (λ c κs. let d = c .before .before .before in
     let e = d .before .before in
     decided-sayable (e .before .before .before .before .before .pre) (d .negotiate .ensures _) (rw (e .event2 .given .1)))
-    (λ c. search needs)
-    (λ c κs. search needs)
-    (λ c. search needs)
-    (λ c κs. search needs)
-    (λ c. search needs)
-    (λ c κs. search needs)
+    (λ c. search needs) (λ c κs. search needs) (λ c. search needs) (λ c κs. search needs) (λ c. search needs) (λ c κs. search needs)
     (λ c κs. let d = c .before .before .before in
     let e = d .before .before .before in
     let a = e .before .before .before .before .before .pre in
     decided-sayable a (fits-rule _ (a .fits) (d .decide-end .ensures)) (rw (e .event3 .given .1)))
-    (λ c. search needs)
-    (λ c κs. search needs)
-    (λ c. search needs)
-    (λ c κs. search needs)
+    (λ c. search needs) (λ c κs. search needs) (λ c. search needs) (λ c κs. search needs)
     (λ c. nothing-applies (c .nothing .ensures) (rw (c .before .enum-told .given .1)))
-    (λ c. search needs)
-    (λ c. search needs)
+    (λ c. search needs) (λ c. search needs)
     (λ c. let d = c .before .before .before in
     rw (d .before .before .before .before .event .given .1) (data-applies _ _ (d .take-data .ensures) (c .nothing2 .ensures)))
-    (λ c. search needs)
-    (λ c. search needs)
-    (λ c. search needs)
+    (λ c. search needs) (λ c. search needs) (λ c. search needs)
     (λ c. let a = c .before .before .before .before .before .before in
     let d = a .before .before .before .before in
     let e = d .before .before in
     decided-applies (e .before .before .before .before .before .pre) (d .negotiate .ensures _) (rw (e .event2 .given .1)) (a .apply .ensures))
     (λ c. nothing-applies (c .nothing3 .ensures) (rw (c .before .enum-told2 .given .1)))
     (λ c. nothing-applies (c .nothing4 .ensures) (rw (c .before .enum-told3 .given .1)))
-    (λ c. search needs)
-    (λ c. search needs)
-    (λ c. search needs)
+    (λ c. search needs) (λ c. search needs) (λ c. search needs)
     (λ c. let a = c .before .before .before .before .before .before in
     let d = a .before .before .before .before in
     let e = d .before .before .before in

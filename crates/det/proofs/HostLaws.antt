@@ -9,14 +9,14 @@ use lib.Seq.{length-take-le}
 use Rattle.telnet.specs.Stream.{part}
 use Rattle.telnet.proofs.PartLaws.{part-none, part-one, part-then, part-rest}
 use Rattle.rules.specs.declared.Refusal.the-variants.{Taken}
-use Rattle.rules.specs.Session.{Screen, State, replyRoom}
+use Rattle.rules.specs.Session.{Screen, State, replyRoom, state}
 use Rattle.rules.specs.Operation.{Ran, outcome, hostByte, running, takenOf}
 use Rattle.rules.proofs.Sound.{Sound, sound-running, passes}
 use Rattle.rules.proofs.Room.{room-byte}
 use Rattle.rules.proofs.Run.{running-append, silent-taken, taken-step}
 use Rattle.det.specs.declared.take.Turn.{Turn}
 use Rattle.reply.specs.Reply.{Emitted}
-use Rattle.det.specs.inner.Take.{Accepts, turnedTo, Taking, QuietTurn, hostTaken}
+use Rattle.det.specs.inner.Take.{Accepts, Taking, QuietTurn, hostTaken}
 use Rattle.det.proofs.ReplyLaws.{emitted-none, emitted-length, emitted-then, emitted-whole}
 use Rattle.det.proofs.TakeLaws.{accepted}
 
@@ -78,7 +78,7 @@ module _ (s : State) (reply : List ℕ) (at : ℕ) (a : Accepts s reply at) wher
 
     -- a turn that draws no reply
     pub taking-quiet : {t : Turn} {b : Screen} → QuietTurn s input from at t b
-        → (from < t .end) × Taking s input from reply at (turnedTo t b) (t .end) reply (t .written)
+        → (from < t .end) × Taking s input from reply at (state (t .session) b) (t .end) reply (t .written)
     taking-quiet {t} {b} r =
         let end = t .end in
         let onward : from ≤ end = omega (arith, r .further) in
@@ -102,7 +102,8 @@ module _ {s₀ s : State} {input reply₀ reply : List ℕ} {taken written : ℕ
   -- a byte is taken where there is room for a reply
   pub taking-accepts : Accepts s₀ reply₀ 0 → replyRoom (s .session .frame) ≤ length reply - written → Accepts s reply written
   taking-accepts a r =
-      let sound : Sound (s₀ .session .frame .width) (s₀ .session .frame .height) s = rw (t .state) (sound-running (accepted s₀ reply₀ 0 a .sound) (part 0 taken input)) in
+      let sound : Sound (s₀ .session .frame .width) (s₀ .session .frame .height) s =
+      rw (t .state) (sound-running (accepted s₀ reply₀ 0 a .sound) (part 0 taken input)) in
       passes sound (drop written reply) (rw length-drop r)
 
   -- where no more is taken, all is done

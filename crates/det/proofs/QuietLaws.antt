@@ -20,6 +20,7 @@ use Rattle.rules.specs.Telnet.{holding, heldAfter, hostData}
 use Rattle.rules.specs.Operation.{Ran, happening, hostByte, applied, running}
 use Rattle.rules.proofs.Characters.{changed-append}
 use Rattle.rules.proofs.Run.{running-append}
+use Rattle.det.specs.declared.take.Turn.{Turn}
 use Rattle.det.specs.inner.Apply.{Changes, hostText}
 use Rattle.det.specs.inner.Take.{holdingAll, QuietTurn}
 use Rattle.det.proofs.TakeLaws.{data-only}
@@ -55,7 +56,8 @@ module _ (f : Frame) (held : Held) (b : Screen) where
         ∙ rw (← d .frame, ← d .characters))
 
     -- in a subnegotiation it is held
-    inside-held : (option : ℕ) → hostByte (standing f (Inside option) held b) byte ≡ still (standing f (Inside option) (holding held byte) b)
+    inside-held : (option : ℕ) → hostByte (standing f (Inside option) held b) byte
+        ≡ still (standing f (Inside option) (holding held byte) b)
     unfolding hostByte happening heldAfter readOf inside holding changedAll spelledAll
     inside-held option = rw (ne-eqb _ _ n)
 
@@ -72,7 +74,8 @@ data-ran (x ∷ xs) n f held b =
     let e = hostData v x in
     let one = rest-data f held b (n 0 (omega arith)) (record { frame = refl; characters = refl }) in
     let kept : e .view ≡ view (e .view .frame) (b .attrs) = ap (λ (q : Effect). q .view) (data-only v x) in
-    let rest = data-ran xs (λ k h. n (suc k) (omega arith)) (e .view .frame) held (screen (changedAll (b .attrs) (e .changes) (b .chars)) (b .attrs)) in
+    let after = screen (changedAll (b .attrs) (e .changes) (b .chars)) (b .attrs) in
+    let rest = data-ran xs (λ k h. n (suc k) (omega arith)) (e .view .frame) held after in
     rw (one, rest, kept, changed-append)
 
 held-ran : (xs : List ℕ) → No255 xs → (f : Frame) (option : ℕ) (held : Held) (b : Screen)
@@ -85,32 +88,31 @@ held-ran (x ∷ xs) n f option held b =
 -- ---- a stretch of the input
 
 module _ (input : List ℕ) (from : ℕ) (p : Phase) where
-  -- its bytes draw no reply, and so does the IAC after them
+  -- its bytes draw no reply, and neither does the IAC after them
   quiet-through : (s : State) (after : Phase → State) → running s (bytes input from p) ≡ still (after p)
-      → hostByte (after p) 255 ≡ still (after (readOf p 255 .phase)) → running s (through input from p) ≡ still (after (here input from p .phase))
+      → hostByte (after p) 255 ≡ still (after (readOf p 255 .phase))
+      → running s (through input from p) ≡ still (after (here input from p .phase))
   unfolding running
   quiet-through s after r iac =
       by-end input from p (λ bs q. running s bs ≡ still (after q)) r (running-append s (bytes input from p) (255 ∷ []) ∙ rw (r, iac))
+
+-- a turn that ends with a stretch
+abbrev turn : Stretch → Frame → Held → ℕ → Turn
+turn t f held at = record { session = session f (record { phase = t .phase; held = held }); end = t .next; written = at }
 
 module _ {input : List ℕ} {from : ℕ} (h : from < length input) (p : Phase) {t : Stretch} (e : t ≡ stretchOf p input from) where
   pub lies : Lies input from t
   lies = rw e (stretch-lies input from p h)
 
-  -- so a turn ends with them
   quiet-turn : {s : State} {f : Frame} {held : Held} {b : Screen} (at : ℕ)
       → running s (part from (t .next) input) ≡ still (standing f (t .phase) held b)
-      → QuietTurn s input from at (record { frame = f; reader = record { phase = t .phase; held = held }; end = t .next; written = at }) b
+      → QuietTurn s input from at (turn t f held at) b
   quiet-turn at ran = record { further = lies .further; within = lies .within; ran = ran; same = refl }
 
   -- data
   pub text-turn : {f f′ : Frame} {held : Held} {b : Screen} {chars : List ℕ} (at : ℕ) → p ≡ Rest
       → Changes (hostText (view f (b .attrs)) (part from (t .end) input)) b f′ chars
-      → QuietTurn (standing f p held b) input from at (record {
-        frame = f′;
-        reader = record { phase = t .phase; held = held };
-        end = t .next;
-        written = at;
-      }) (screen chars (b .attrs))
+      → QuietTurn (standing f p held b) input from at (turn t f′ held at) (screen chars (b .attrs))
   text-turn {f} {f′} {held} {b} {chars} at q c =
       let d = rw (e, q) at c in
       quiet-turn at (rw (e, q) (quiet-through input from Rest (standing f Rest held b) (λ x. standing f′ x held (screen chars (b .attrs)))
@@ -118,13 +120,9 @@ module _ {input : List ℕ} {from : ℕ} (h : from < length input) (p : Phase) {
       (rest-iac f′ held (screen chars (b .attrs)))))
 
   -- a subnegotiation's bytes
-  pub payload-turn : {f : Frame} {held held′ : Held} {b : Screen} (at o : ℕ) → p ≡ Inside o → held′ ≡ holdingAll held (part from (t .end) input)
-      → QuietTurn (standing f p held b) input from at (record {
-        frame = f;
-        reader = record { phase = t .phase; held = held′ };
-        end = t .next;
-        written = at;
-      }) b
+  pub payload-turn : {f : Frame} {held held′ : Held} {b : Screen} (at o : ℕ) → p ≡ Inside o
+      → held′ ≡ holdingAll held (part from (t .end) input)
+      → QuietTurn (standing f p held b) input from at (turn t f held′ at) b
   payload-turn {f} {held} {held′} {b} at o q c =
       let d = rw (e, q) at c in
       quiet-turn at (rw (e, q) (quiet-through input from (Inside o) (standing f (Inside o) held b) (λ x. standing f x held′ b)

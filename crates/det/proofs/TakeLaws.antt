@@ -1,10 +1,15 @@
 -- Laws of one host byte: what is decided on what the reader told, and what the decision does.
 use mathlib.Core.Path.{_≡_, refl, sym, ap, _∙_}
-use mathlib.Core.List.{List, []}
+use mathlib.Core.List.{List, [], _∷_}
 use Prim.Native.Nat.{ℕ, _≤_}
 use native.Mathlib.Omega.{arith}
 use lib.Dec.{eqb}
 use lib.ListN.{length, drop, length-drop}
+use types.Run.{OneOf, miss}
+use denote.Enum.Declared.{tagOf}
+use Rattle.telnet.proofs.Event.{the-type}
+use Rattle.telnet.specs.declared.Event.{Event}
+use Rattle.telnet.specs.declared.Event.the-variants.{Nothing, Data, Negotiation, Begin, Sub, End, EndBare, Lost}
 use Rattle.telnet.specs.declared.Step.{Step}
 use Rattle.telnet.specs.Reader.{readOf}
 use Rattle.screen.proofs.WordLaws.{either}
@@ -61,6 +66,18 @@ pub nothing-applies : {e : Effect} {f : Frame} {b : Screen} {reply : List ℕ} {
 unfolding changedAll spelledAll
 nothing-applies p q = rw (p, q) (record { changes = record { frame = refl; characters = refl }; attributes = refl; replies = emitted-none })
 
+-- the events on which nothing is done: all but data, a negotiation and an end
+pub idle : (v : View) (h : Held) (e : Event) → OneOf (0 ∷ 3 ∷ 4 ∷ 6 ∷ 7 ∷ []) (tagOf the-type e) → happening v h e ≡ quiet v
+unfolding happening
+idle v h Nothing k = refl
+idle v h (Data b) k = absurd (miss (0 ∷ 3 ∷ 4 ∷ 6 ∷ 7 ∷ []) 1 tt k)
+idle v h (Negotiation verb option) k = absurd (miss (0 ∷ 3 ∷ 4 ∷ 6 ∷ 7 ∷ []) 2 tt k)
+idle v h (Begin option) k = refl
+idle v h (Sub option b) k = refl
+idle v h (End option) k = absurd (miss (0 ∷ 3 ∷ 4 ∷ 6 ∷ 7 ∷ []) 5 tt k)
+idle v h EndBare k = refl
+idle v h Lost k = refl
+
 -- ---- host data
 
 -- it keeps the attribute bytes, and draws no reply
@@ -115,17 +132,17 @@ module _ (s : State) (reply : List ℕ) (at : ℕ) (a : Accepts s reply at) wher
   sayable t h = record { sendable = t; long = equally-long; room = fits-worst h }
 
   module _ (byte : ℕ) {step : Step} (e : step ≡ readOf (s .session .reader .phase) byte) where
-    -- what a byte told
-    abbrev told : Effect
-    told = happening (viewOf s) (s .session .reader .held) (step .event)
+    -- what is done on the event that the byte tells
+    abbrev happens : Effect
+    happens = happening (viewOf s) (s .session .reader .held) (step .event)
 
     byte-is : hostByte s byte
-        ≡ applied s (record { phase = step .phase; held = heldAfter (s .session .reader .held) (step .event) }) told
+        ≡ applied s (record { phase = step .phase; held = heldAfter (s .session .reader .held) (step .event) }) happens
     unfolding hostByte
     byte-is = rw (← e)
 
     -- the reply to it can be written
-    pub byte-answerable : Answerable told (s .session .frame) (s .screen) reply at
+    pub byte-answerable : Answerable happens (s .session .frame) (s .screen) reply at
     byte-answerable = record {
       fits = accepts-fits;
       long = equally-long;
@@ -133,7 +150,7 @@ module _ (s : State) (reply : List ℕ) (at : ℕ) (a : Accepts s reply at) wher
     }
 
     -- and what is done is what the byte does
-    module _ {done : Applied} {b : Screen} {reply′ : List ℕ} (h : Applies told (s .screen) reply at done b reply′) where
+    module _ {done : Applied} {b : Screen} {reply′ : List ℕ} (h : Applies happens (s .screen) reply at done b reply′) where
       pub byte-state : {held : Held} → held ≡ heldAfter (s .session .reader .held) (step .event)
           → state (session (done .frame) (record { phase = step .phase; held = held })) b ≡ (hostByte s byte) .state
       byte-state q =

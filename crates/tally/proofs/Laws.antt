@@ -39,17 +39,17 @@ unfolding tallyOf
 tally-append [] ys = rw none-plus
 tally-append (x ∷ xs) ys = rw (tally-append xs ys, plus-assoc)
 
--- what a byte tells adds what its event adds, and one at most
-told-tally : (e : Event) → (tallyOf (asList e) ≡ tallied e) × (total (tallied e) ≤ 1)
+-- an event as a list adds what the event adds, and one at most
+event-tally : (e : Event) → (tallyOf (asList e) ≡ tallied e) × (total (tallied e) ≤ 1)
 unfolding tallyOf tallied plus
-told-tally Nothing = (refl, omega arith)
-told-tally (Data b) = (refl, omega arith)
-told-tally (Negotiation v o) = (refl, omega arith)
-told-tally (Begin o) = (refl, omega arith)
-told-tally (Sub o b) = (refl, omega arith)
-told-tally (End o) = (refl, omega arith)
-told-tally EndBare = (refl, omega arith)
-told-tally Lost = (refl, omega arith)
+event-tally Nothing = (refl, omega arith)
+event-tally (Data b) = (refl, omega arith)
+event-tally (Negotiation v o) = (refl, omega arith)
+event-tally (Begin o) = (refl, omega arith)
+event-tally (Sub o b) = (refl, omega arith)
+event-tally (End o) = (refl, omega arith)
+event-tally EndBare = (refl, omega arith)
+event-tally Lost = (refl, omega arith)
 
 data-tally : (bs : List ℕ) → tallyOf (map Data bs) ≡ counts (length bs) 0 0 0
 unfolding tallyOf tallied plus
@@ -76,8 +76,8 @@ module _ {input : List ℕ} {p : Progress} (c : Counting input p) where
       Further input p (record { phase = step .phase; at = p .at + 1; tally = plus (p .tally) (tallied (step .event)) })
   unfolding plus
   byte-further h =
-      let told = told-tally (readOf (p .phase) (getD input (p .at) 0) .event) in
-      further refl (byte-onward input (p .phase) (p .at) h) (rw (told .0)) (omega (arith, c .few))
+      let adds = event-tally (readOf (p .phase) (getD input (p .at) 0) .event) in
+      further refl (byte-onward input (p .phase) (p .at) h) (rw (adds .0)) (omega (arith, c .few))
 
   -- a stretch, which adds its length to one count
   module _ (h : p .at < length input) {s : Stretch} (e : s ≡ stretchOf (p .phase) input (p .at)) where
@@ -113,8 +113,8 @@ module _ {input : List ℕ} {p : Progress} (c : Counting input p) where
     unfolding plus
     payload-further o q =
         let l = stretch-lies-here in
-        counted-through (map (Sub o) bytes) more-payload (rw (e, q) (payload-stretch input (p .at) o)) (rw (payload-tally o, long) (simp add-zero))
-        (omega (arith, l .onward, l .forth, c .few))
+        counted-through (map (Sub o) bytes) more-payload (rw (e, q) (payload-stretch input (p .at) o))
+        (rw (payload-tally o, long) (simp add-zero)) (omega (arith, l .onward, l .forth, c .few))
 
   -- at the end all is counted
   pub counting-done : length input ≤ p .at → p .tally ≡ tallyOf (eventsOf Rest input)

@@ -18,7 +18,8 @@ use Rattle.telnet.specs.declared.Event.the-variants.{Nothing, Data, Sub}
 use Rattle.telnet.specs.declared.stretch.Stretch.{Stretch}
 use Rattle.telnet.specs.Reader.{iac, silent, readOf, reader}
 use Rattle.telnet.specs.Stream.{phaseAfter, asList, eventsOf, beforeIac, dataEnd, part, stretchOf}
-use Rattle.telnet.proofs.Laws.{Reads, No255, phase-append, events-append, events-at, phase-at, joined, one, plain-read, plain-payload-read}
+use Rattle.telnet.proofs.Laws.{Reads, No255, phase-append, events-append, events-at, phase-at, joined, one}
+use Rattle.telnet.proofs.Laws.{plain-read, plain-payload-read}
 use Rattle.telnet.proofs.PartLaws.{part-one, part-then, part-rest}
 
 -- For a loop over a slice: at i stands IAC, or another byte, or i is past the end.
@@ -110,7 +111,8 @@ module _ (s : List ℕ) (from : ℕ) where
     stretch-length = rw count (length-take-le _ _ (before (drop from s) .within))
 
     -- an IAC stands at its end, or it ends with the list
-    pub stretch-iac : dataEnd s from < length s → here ≡ record { end = dataEnd s from; next = dataEnd s from + 1; phase = readOf p iac .phase }
+    pub stretch-iac : dataEnd s from < length s
+        → here ≡ record { end = dataEnd s from; next = dataEnd s from + 1; phase = readOf p iac .phase }
     unfolding stretchOf
     stretch-iac h = rw (lt-ltb _ _ h)
 
@@ -124,10 +126,12 @@ module _ (s : List ℕ) (from : ℕ) where
         go : (t : Bool) → ltb (dataEnd s from) (length s) ≡ t → Lies s from here
         go true e =
             let more = ltb-true (dataEnd s from) (length s) e in
-            rw (stretch-iac more) (record { onward = end-forth; forth = omega arith; within = omega (arith, more); further = omega (arith, end-forth) })
+            rw (stretch-iac more)
+            (record { onward = end-forth; forth = omega arith; within = omega (arith, more); further = omega (arith, end-forth) })
         go false e =
             let last = ltb-false (dataEnd s from) (length s) e in
-            rw (stretch-last last) (record { onward = end-forth; forth = omega arith; within = end-within (omega arith); further = omega (arith, last) })
+            rw (stretch-last last)
+            (record { onward = end-forth; forth = omega arith; within = end-within (omega arith); further = omega (arith, last) })
 
     -- What holds of its bytes with the phase before them, and of those and an IAC with the phase that it leads to, holds of all up
     -- to where reading goes on.

@@ -10,6 +10,10 @@ payload-stretch-spec =
     tie.close
     (tie.spec
     (λ c κs. search needs)
-    (λ c. let d = c .before .before in let s = d .before .before .pre in stretch-lies-here (s .1 .0) (s .1 .1) (d .stretch-at .ensures) .onward)
+    (λ c. let d = c .before .before in
+    let s = d .before .before .pre in
+    stretch-lies-here (s .1 .0) (s .1 .1) (d .stretch-at .ensures) .onward)
     (λ c. search needs)
-    (λ c. let d = c .before .before .before in let s = d .before .before .pre in payload-further (s .1 .0) (s .1 .1) (d .stretch-at .ensures) _ (s .0)))
+    (λ c. let d = c .before .before .before in
+    let s = d .before .before .pre in
+    payload-further (s .1 .0) (s .1 .1) (d .stretch-at .ensures) _ (s .0)))

@@ -16,7 +16,9 @@ data-end-spec =
     (λ input from at₀ at. length input - at)
     (λ c. refl)
     (λ c. search needs)
-    (λ c. let l = c .before .before .before in sym (l .loop .inv ∙ end-hit (l .before .args .input .now) (l .loop .at) (c .before .before .loop-test .taken) (c .if1 .taken)))
+    (λ c. let l = c .before .before .before in
+    sym (l .loop .inv ∙ end-hit (l .before .args .input .now) (l .loop .at) (c .before .before .loop-test .taken) (c .if1 .taken)))
     (λ c. search needs) (λ c. search needs)
-    (λ c. let l = c .before .before .before in l .loop .inv ∙ end-skip (l .before .args .input .now) (l .loop .at) (c .before .before .loop-test .taken) (c .if1 .left))
+    (λ c. let l = c .before .before .before in
+    l .loop .inv ∙ end-skip (l .before .args .input .now) (l .loop .at) (c .before .before .loop-test .taken) (c .if1 .left))
     (λ c. sym (c .before .loop .inv ∙ end-past _ (c .before .loop .at) (c .loop-test .left))))

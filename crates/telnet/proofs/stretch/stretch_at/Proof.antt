@@ -10,5 +10,6 @@ stretch-at-spec =
     tie.close
     (tie.spec
     (λ c κs. search needs) (λ c κs. search needs) (λ c. search needs)
-    (λ c. let d = c .before .before .data-end .ensures in rw (d, c .read .ensures) (sym (stretch-iac _ _ _ (rw d at (c .before .if1 .taken)))))
+    (λ c. let d = c .before .before .data-end .ensures in
+    rw (d, c .read .ensures) (sym (stretch-iac _ _ _ (rw d at (c .before .if1 .taken)))))
     (λ c. let d = c .before .data-end .ensures in rw d (sym (stretch-last _ _ _ (rw d at (c .if1 .left))))))

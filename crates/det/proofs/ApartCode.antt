@@ -39,7 +39,8 @@ ApartCode =
     → noneReaches (executedOf (state s (screen c attrs)) calls) ≡ true
     → Chain (state s (screen c attrs)) calls first
     → Chain (state s (screen d attrs)) calls second
-    → Indistinct attrs c d (map answered first) (map answered second) (end (state s (screen c attrs)) first) (end (state s (screen d attrs)) second)
+    → Indistinct attrs c d (map answered first) (map answered second)
+    (end (state s (screen c attrs)) first) (end (state s (screen d attrs)) second)
 
 -- ---- its proof
 

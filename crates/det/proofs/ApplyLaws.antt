@@ -55,7 +55,8 @@ pub record Repeating (attrs : List ℕ) (c n : ℕ) (f₀ : Frame) (chars₀ : L
 pub repeating-start : {attrs : List ℕ} {c n : ℕ} {f : Frame} {chars : List ℕ} → Repeating attrs c n f chars n f chars
 repeating-start = record { all = λ d. d }
 
-module _ {attrs : List ℕ} {c n : ℕ} {f₀ : Frame} {chars₀ : List ℕ} {k : ℕ} {f : Frame} {chars : List ℕ} (r : Repeating attrs c n f₀ chars₀ k f chars) where
+module _ {attrs : List ℕ} {c n : ℕ} {f₀ : Frame} {chars₀ : List ℕ} {k : ℕ} {f : Frame} {chars : List ℕ}
+    (r : Repeating attrs c n f₀ chars₀ k f chars) where
   -- one more is done
   pub repeating-more : {f′ : Frame} {chars′ : List ℕ} → 0 < k → Changes (hostCharacter (view f attrs) c) (screen chars attrs) f′ chars′
       → Repeating attrs c n f₀ chars₀ (k - 1) f′ chars′
@@ -64,7 +65,10 @@ module _ {attrs : List ℕ} {c n : ℕ} {f₀ : Frame} {chars₀ : List ℕ} {k 
         let v = view f attrs in
         let after : view f′ attrs ≡ (hostCharacter v c) .view = λ i. record { frame = (one .frame) i; attrs = sym (host-attrs v c) i } in
         let less = one-less k v c h in
-        r .all (record { frame = rw (less, ← after) (d .frame); characters = rw (less, changed-append, ← after, ← one .characters) (d .characters) });
+        r .all (record {
+          frame = rw (less, ← after) (d .frame);
+          characters = rw (less, changed-append, ← after, ← one .characters) (d .characters);
+        });
   }
 
   -- none is left

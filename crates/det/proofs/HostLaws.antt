@@ -1,6 +1,6 @@
 -- Laws of taking host bytes: none, one, a stretch, and some after others.
 use mathlib.Core.Path.{_≡_, sym, ap, _∙_}
-use mathlib.Core.List.{List, [], _∷_, _++_, append-nil}
+use mathlib.Core.List.{List, [], _∷_, append-nil}
 use Prim.Native.Nat.{ℕ, _+_, _-_, _≤_, _<_}
 use native.Mathlib.Nat.{zero-add, sub-zero, add-zero}
 use native.Mathlib.Omega.{arith}

@@ -38,7 +38,8 @@ module _ (s : State) (reply : List ℕ) (code : ℕ) {why : Refusal} (e : why �
   unfolding sizeTests
   refused-first h = e ∙ sym (failed-first _ _ (rw e at h))
 
-  pub refused-last : {k : Key} {r : Refusal} → why ≡ Taken → k ≡ keyOf code → r ≡ verdict (keyTests (viewOf s) k) → r ≡ keyRefusal s reply code
+  pub refused-last : {k : Key} {r : Refusal} → why ≡ Taken → k ≡ keyOf code → r ≡ verdict (keyTests (viewOf s) k)
+      → r ≡ keyRefusal s reply code
   unfolding sizeTests stateTests
   refused-last t q h = rw (passed-on _ _ refl (sym e ∙ t)) (h ∙ rw q)
 

@@ -30,5 +30,6 @@ module _ {buf : List ℕ} {at : ℕ} {xs buf₁ : List ℕ} {at₁ : ℕ} (p : E
   }
 
 -- written from the start: the bytes at the front, the rest as lent
-pub emitted-whole : {buf bytes buf₁ : List ℕ} {at₁ : ℕ} → Room buf 0 bytes → Emitted buf 0 bytes buf₁ at₁ → buf₁ ≡ bytes ++ drop (length bytes) buf
+pub emitted-whole : {buf bytes buf₁ : List ℕ} {at₁ : ℕ} → Room buf 0 bytes → Emitted buf 0 bytes buf₁ at₁
+    → buf₁ ≡ bytes ++ drop (length bytes) buf
 emitted-whole {buf} {bytes} room p = p .stored ∙ sets-eq bytes buf 0 (room .fits) ∙ rw zero-add

@@ -1,4 +1,4 @@
--- Laws of one host byte: what is decided on what the reader told, and what the decision does.
+-- Laws of one host byte: what is decided on its event, and what the decision does.
 use mathlib.Core.Path.{_≡_, refl, sym, ap, _∙_}
 use mathlib.Core.List.{List, [], _∷_}
 use Prim.Native.Nat.{ℕ, _≤_}
@@ -61,8 +61,8 @@ module _ {e : Effect} {f : Frame} {b : Screen} {reply : List ℕ} {at : ℕ} (a 
       }
 
 -- nothing is done
-pub nothing-applies : {e : Effect} {f : Frame} {b : Screen} {reply : List ℕ} {at : ℕ} {done : Applied} → done ≡ record { frame = f; written = at }
-    → e ≡ quiet (view f (b .attrs)) → Applies e b reply at done b reply
+pub nothing-applies : {e : Effect} {f : Frame} {b : Screen} {reply : List ℕ} {at : ℕ} {done : Applied}
+    → done ≡ record { frame = f; written = at } → e ≡ quiet (view f (b .attrs)) → Applies e b reply at done b reply
 unfolding changedAll spelledAll
 nothing-applies p q = rw (p, q) (record { changes = record { frame = refl; characters = refl }; attributes = refl; replies = emitted-none })
 

@@ -24,7 +24,8 @@ module _ {v : View} {c : ℕ} {w : Writing} (one : Writes v Host c w) where
   host-by-fate = by-fate v c ∙ rw (← one .fate)
 
   -- not written, it changes nothing
-  pub unwritten : {chars : List ℕ} → OneOf (1 ∷ 2 ∷ 3 ∷ []) (tagOf the-type (w .fate)) → Changes (hostCharacter v c) (screen chars (v .attrs)) (v .frame) chars
+  pub unwritten : {chars : List ℕ} → OneOf (1 ∷ 2 ∷ 3 ∷ []) (tagOf the-type (w .fate))
+      → Changes (hostCharacter v c) (screen chars (v .attrs)) (v .frame) chars
   unfolding changedAll
   unwritten h = rw (host-by-fate, not-written (w .fate) h) (record { frame = refl; characters = refl })
 

@@ -1,5 +1,4 @@
 -- `data_stretch` meets its contract: a stretch is counted at once.
-use native.Mathlib.Omega.{arith}
 use borrow.Author.Needs.{needs}
 use Rattle.tally.proofs.Laws.{stretch-lies-here, data-further}
 use Rattle.tally.proofs.data_stretch.Statement.{statement}

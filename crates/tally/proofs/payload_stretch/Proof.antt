@@ -1,5 +1,4 @@
 -- `payload_stretch` meets its contract: a stretch is counted at once.
-use native.Mathlib.Omega.{arith}
 use borrow.Author.Needs.{needs}
 use Rattle.tally.proofs.Laws.{stretch-lies-here, payload-further}
 use Rattle.tally.proofs.payload_stretch.Statement.{statement}

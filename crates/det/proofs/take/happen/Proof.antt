@@ -27,11 +27,13 @@ happen-spec =
     (λ c. let a = c .before .before .before .before .before .before in
     let d = a .before .before .before .before in
     let e = d .before .before in
-    decided-applies (e .before .before .before .before .before .pre) (d .negotiate .ensures _) (rw (e .event2 .given .1)) (a .apply .ensures))
+    decided-applies (e .before .before .before .before .before .pre) (d .negotiate .ensures _) (rw (e .event2 .given .1))
+    (a .apply .ensures))
     (λ c. search needs) (λ c. search needs) (λ c. search needs)
     (λ c. let a = c .before .before .before .before .before .before in
     let d = a .before .before .before .before in
     let e = d .before .before .before in
     let b = e .before .before .before .before .before .pre in
     decided-applies b (fits-rule _ (b .fits) (d .decide-end .ensures)) (rw (e .event3 .given .1)) (a .apply2 .ensures))
-    (λ c. nothing-applies (c .nothing2 .ensures) (idle _ _ (c .before .before .before .before .before .args .event) (c .before .match .keys4))))
+    (λ c. nothing-applies (c .nothing2 .ensures)
+    (idle _ _ (c .before .before .before .before .before .args .event) (c .before .match .keys4))))

@@ -12,7 +12,8 @@ take-payload-spec =
     (λ c κs. search needs)
     (λ c. let s = c .before in lies (s .before .before .before .pre .1) _ (s .stretch-at .ensures) .onward)
     (λ c. let s = c .before in lies (s .before .before .before .pre .1) _ (s .stretch-at .ensures) .onward)
-    (λ c. let s = c .before in let l = lies (s .before .before .before .pre .1) _ (s .stretch-at .ensures) in omega (arith, l .forth, l .within))
+    (λ c. let s = c .before in
+    let l = lies (s .before .before .before .pre .1) _ (s .stretch-at .ensures) in omega (arith, l .forth, l .within))
     (λ c κs. search needs)
     (λ c b. let h = c .before in
     let s = h .before .before .before in

@@ -61,10 +61,10 @@ module _ {e : Effect} {f : Frame} {b : Screen} {reply : List ℕ} {at : ℕ} (a 
       }
 
 -- nothing is done
-pub nothing-applies : {e : Effect} {f : Frame} {b : Screen} {reply : List ℕ} {at : ℕ} {done : Applied}
-    → done ≡ record { frame = f; written = at } → e ≡ quiet (view f (b .attrs)) → Applies e b reply at done b reply
+pub nothing-applies : {e : Effect} {f : Frame} {b : Screen} {reply : List ℕ} {at : ℕ} → e ≡ quiet (view f (b .attrs))
+    → Applies e b reply at (record { frame = f; written = at }) b reply
 unfolding changedAll spelledAll
-nothing-applies p q = rw (p, q) (record { changes = record { frame = refl; characters = refl }; attributes = refl; replies = emitted-none })
+nothing-applies q = rw q (record { changes = record { frame = refl; characters = refl }; attributes = refl; replies = emitted-none })
 
 -- the events on which nothing is done: all but data, a negotiation and an end
 pub idle : (v : View) (h : Held) (e : Event) → OneOf (0 ∷ 3 ∷ 4 ∷ 6 ∷ 7 ∷ []) (tagOf the-type e) → happening v h e ≡ quiet v
@@ -89,17 +89,17 @@ data-only v b =
     (λ t. either only (cursorGuarded v) (λ g. refl) (λ g. refl))
     (λ t. either only (eqb b 13) (λ p. refl) (λ p. either only (eqb b 10) (λ q. refl) (λ q. either only (eqb b 8) (λ r. refl) (λ r. refl))))
 
-pub data-applies : (f : Frame) (byte : ℕ) {f′ : Frame} {b : Screen} {chars reply : List ℕ} {at : ℕ} {done : Applied}
-    → Changes (hostData (view f (b .attrs)) byte) b f′ chars → done ≡ record { frame = f′; written = at }
-    → Applies (hostData (view f (b .attrs)) byte) b reply at done (screen chars (b .attrs)) reply
+pub data-applies : (f : Frame) (byte : ℕ) {f′ : Frame} {b : Screen} {chars reply : List ℕ} {at : ℕ}
+    → Changes (hostData (view f (b .attrs)) byte) b f′ chars
+    → Applies (hostData (view f (b .attrs)) byte) b reply at (record { frame = f′; written = at }) (screen chars (b .attrs)) reply
 unfolding spelledAll
-data-applies f byte {b = b} k p =
+data-applies f byte {b = b} k =
     let only = data-only (view f (b .attrs)) byte in
-    rw p (record {
+    record {
       changes = k;
       attributes = ap (λ (e : Effect). e .view .attrs) (sym only);
       replies = rw (ap (λ (e : Effect). e .reply) only) emitted-none;
-    })
+    }
 
 -- ---- a byte that is taken
 

@@ -33,15 +33,6 @@ pub struct Turn {
     pub written: usize,
 }
 
-fn nothing(frame: Frame, at: usize) -> Applied
-    ensures { λ r. ⌜ r ≡ record { frame = frame; written = at } ⌝ }
-{
-    Applied {
-        frame: frame,
-        written: at,
-    }
-}
-
 // Does what an event asks for. `held` is what was held before it.
 fn happen(
     frame: Frame,
@@ -58,7 +49,13 @@ fn happen(
         r (lent (chars .exit) (attrs .exit)) (now (reply .exit)) ⌝ }
 {
     match event {
-        Event::Data(byte) => nothing(take_data(frame, byte, chars, attrs), at),
+        Event::Data(byte) => {
+            let after = take_data(frame, byte, chars, attrs);
+            Applied {
+                frame: after,
+                written: at,
+            }
+        }
         Event::Negotiation { verb, option } => {
             let decision = negotiate(frame, verb, option);
             apply(decision, chars, attrs, reply, at)
@@ -67,7 +64,10 @@ fn happen(
             let decision = decide_end(frame, attrs, held, option);
             apply(decision, chars, attrs, reply, at)
         }
-        _ => nothing(frame, at),
+        _ => Applied {
+            frame: frame,
+            written: at,
+        },
     }
 }
 

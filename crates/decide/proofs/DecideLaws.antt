@@ -17,7 +17,8 @@ use Rattle.decide.specs.declared.decision.Edit.the-variants.{Nothing}
 use Rattle.decide.specs.declared.decision.Say.the-variants.{Silent}
 use Rattle.decide.specs.declared.decision.Format.the-variants.{Keep}
 use Rattle.decide.specs.declared.decision.Decision.{Decision}
-use Rattle.command.specs.Frame.{OnScreen, Fits, fitting}
+use Rattle.command.specs.Frame.{fitting}
+use Rattle.command.specs.inner.Frame.{OnScreen, Fits}
 use Rattle.decide.specs.Decision.{meant, shown, Sendable, Decides, whereFits}
 use Rattle.decide.specs.inner.Decision.{decision}
 

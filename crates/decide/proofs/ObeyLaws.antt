@@ -26,7 +26,7 @@ use Rattle.rules.specs.Effect.{Effect}
 use Rattle.rules.specs.Cursor.{cursorGuarded, homeCell, backTabCell, firstFieldCell, nextFieldCell, previousOpenCell}
 use Rattle.rules.specs.Telnet.{hostCharacter, hostCharacters}
 use Rattle.rules.specs.Subcommand.{cursorSpanEnd, shifting, erring, judged, looked}
-use Rattle.command.specs.Frame.{OnScreen, Fits}
+use Rattle.command.specs.inner.Frame.{OnScreen, Fits}
 use Rattle.decide.specs.declared.decision.Edit.the-variants.{Nothing}
 use Rattle.decide.specs.declared.decision.Edit.the-variants as edit
 use Rattle.decide.specs.declared.decision.Say.the-variants.{Silent}

@@ -39,7 +39,7 @@ use Rattle.decide.specs.Decision.{Decides}
 use Rattle.decide.specs.inner.Decision.{decision}
 use Rattle.decide.specs.inner.Writing.{ifWritten, fateRefusal}
 use Rattle.decide.proofs.DecideLaws.{decides, recast}
-use Rattle.command.specs.Frame.{Fits}
+use Rattle.command.specs.inner.Frame.{Fits}
 use Rattle.decide.specs.Writing.{fateOf, placeAfter, afterFate, controlOf, pressedIfTaken, Writes}
 
 -- a host character goes by its fate

@@ -1,7 +1,8 @@
 // Changes of the screen: erasures, 29 to 35, and the shifts, 15 and 16.
 ghost use mathlib.Core.Path.{_≡_};
 ghost use Rattle.rules.specs.Subcommand.{erasure, cursorSpanEnd, shifting};
-ghost use Rattle.command.specs.Frame.{Fits, seen};
+ghost use Rattle.command.specs.Frame.{seen};
+ghost use Rattle.command.specs.inner.Frame.{Fits};
 ghost use Rattle.decide.specs.Decision.{Decides};
 ghost use Rattle.decide.specs.inner.Decision.{decision};
 use crate::cursor::sent_to;

@@ -8,7 +8,8 @@ ghost use Rattle.rules.specs.Number.{cursorPosition, error, ownMap, faultNumber
 ghost use Rattle.rules.specs.Effect.{message, saying};
 ghost use Rattle.rules.specs.Subcommand.{suppressing, obeyed, subcommand};
 ghost use Rattle.rules.specs.Operation.{happening};
-ghost use Rattle.command.specs.Frame.{Fits, seen};
+ghost use Rattle.command.specs.Frame.{seen};
+ghost use Rattle.command.specs.inner.Frame.{Fits};
 ghost use Rattle.decide.specs.Decision.{Decides, whereFits};
 ghost use Rattle.decide.specs.inner.Decision.{decision, Judges};
 use crate::change::char_shift;

@@ -1,4 +1,4 @@
--- Laws of changes: REPEAT is done one character at a time, and every other change at once.
+-- Laws of changes: REPEAT is done one character at a time, and every other edit at once.
 use mathlib.Core.Path.{_≡_, refl, sym}
 use mathlib.Core.Logic.{⊎-elim}
 use mathlib.Core.List.{List, [], _∷_, _++_}
@@ -11,16 +11,18 @@ use Rattle.screen.proofs.WordLaws.{either}
 use Rattle.rules.specs.declared.Frame.{Frame}
 use Rattle.rules.specs.Session.{Screen, View, screen, view}
 use Rattle.rules.specs.Effect.{Effect, changedAll, changing}
-use Rattle.rules.specs.Telnet.{cursorGuarded, hostCharacter, hostCharacters}
+use Rattle.rules.specs.Telnet.{hostCharacter, hostCharacters}
+use Rattle.rules.specs.Cursor.{cursorGuarded}
 use Rattle.rules.proofs.Characters.{changed-append}
-use Rattle.decide.proofs.decision.Change.{the-type}
-use Rattle.decide.specs.declared.decision.Change.{Change}
-use Rattle.decide.specs.declared.decision.Change.the-variants.{Nothing, Put, Erase, Shift, Repeat}
-use Rattle.decide.specs.Decision.{changeOf, editsOf, Once}
-use Rattle.det.specs.Apply.{Changes}
+use Rattle.decide.proofs.decision.Edit.{the-type}
+use Rattle.decide.specs.declared.decision.Edit.{Edit}
+use Rattle.decide.specs.declared.decision.Edit.the-variants.{Nothing, Put, Erase, Shift, Repeat}
+use Rattle.decide.specs.Decision.{edited}
+use Rattle.decide.specs.inner.Decision.{changesOf, Once}
+use Rattle.det.specs.inner.Apply.{Changes}
 
 -- what the other arm of a match on Repeat knows
-pub not-repeat : (change : Change) → OneOf (0 ∷ 1 ∷ 2 ∷ 3 ∷ []) (tagOf the-type change) → Once change
+pub not-repeat : (edit : Edit) → OneOf (0 ∷ 1 ∷ 2 ∷ 3 ∷ []) (tagOf the-type edit) → Once edit
 not-repeat Nothing h v = refl
 not-repeat (Put cell c) h v = refl
 not-repeat (Erase suppressed from end) h v = refl
@@ -28,10 +30,10 @@ not-repeat (Shift s from end) h v = refl
 not-repeat (Repeat n c) h v =
     absurd (⊎-elim (λ p. omega arith) (⊎-elim (λ p. omega arith) (⊎-elim (λ p. omega arith) (λ p. omega arith))) h)
 
--- a change that is done at once leaves the frame as it is
-pub changes-once : (change : Change) {f : Frame} {b : Screen} {chars : List ℕ} → Once change
-    → chars ≡ changedAll (b .attrs) (editsOf change) (b .chars) → Changes (changeOf (view f (b .attrs)) change) b f chars
-changes-once change {f} {b} once e = rw (once (view f (b .attrs))) (record { frame = refl; characters = e })
+-- a edit that is done at once leaves the frame as it is
+pub changes-once : (edit : Edit) {f : Frame} {b : Screen} {chars : List ℕ} → Once edit
+    → chars ≡ changedAll (b .chars) (b .attrs) (changesOf edit) → Changes (edited (view f (b .attrs)) edit) b f chars
+changes-once edit {f} {b} once e = rw (once (view f (b .attrs))) (record { frame = refl; characters = e })
 
 -- ---- REPEAT
 
@@ -55,7 +57,8 @@ pub record Repeating (attrs : List ℕ) (c n : ℕ) (f₀ : Frame) (chars₀ : L
 pub repeating-start : {attrs : List ℕ} {c n : ℕ} {f : Frame} {chars : List ℕ} → Repeating attrs c n f chars n f chars
 repeating-start = record { all = λ d. d }
 
-module _ {attrs : List ℕ} {c n : ℕ} {f₀ : Frame} {chars₀ : List ℕ} {k : ℕ} {f : Frame} {chars : List ℕ} (r : Repeating attrs c n f₀ chars₀ k f chars) where
+module _ {attrs : List ℕ} {c n : ℕ} {f₀ : Frame} {chars₀ : List ℕ} {k : ℕ} {f : Frame} {chars : List ℕ}
+    (r : Repeating attrs c n f₀ chars₀ k f chars) where
   -- one more is done
   pub repeating-more : {f′ : Frame} {chars′ : List ℕ} → 0 < k → Changes (hostCharacter (view f attrs) c) (screen chars attrs) f′ chars′
       → Repeating attrs c n f₀ chars₀ (k - 1) f′ chars′
@@ -64,7 +67,10 @@ module _ {attrs : List ℕ} {c n : ℕ} {f₀ : Frame} {chars₀ : List ℕ} {k 
         let v = view f attrs in
         let after : view f′ attrs ≡ (hostCharacter v c) .view = λ i. record { frame = (one .frame) i; attrs = sym (host-attrs v c) i } in
         let less = one-less k v c h in
-        r .all (record { frame = rw (less, ← after) (d .frame); characters = rw (less, changed-append, ← after, ← one .characters) (d .characters) });
+        r .all (record {
+          frame = rw (less, ← after) (d .frame);
+          characters = rw (less, changed-append, ← after, ← one .characters) (d .characters);
+        });
   }
 
   -- none is left

@@ -1,45 +1,24 @@
--- Laws of taking host bytes: none, one, a run, and some after others.
+-- Laws of taking host bytes: none, one, a stretch, and some after others.
 use mathlib.Core.Path.{_≡_, sym, ap, _∙_}
-use mathlib.Core.List.{List, [], _∷_, _++_, append-nil}
+use mathlib.Core.List.{List, [], _∷_, append-nil}
 use Prim.Native.Nat.{ℕ, _+_, _-_, _≤_, _<_}
 use native.Mathlib.Nat.{zero-add, sub-zero, add-zero}
 use native.Mathlib.Omega.{arith}
-use lib.ListN.{length, getD, take, drop, length-drop, take-append-drop}
-use lib.Seq.{take-add, drop-cons, drop-drop, length-take-le}
+use lib.ListN.{length, getD, take, drop, length-drop}
+use lib.Seq.{length-take-le}
+use Rattle.telnet.specs.Stream.{part}
+use Rattle.telnet.proofs.PartLaws.{part-none, part-one, part-then, part-rest}
 use Rattle.rules.specs.declared.Refusal.the-variants.{Taken}
-use Rattle.rules.specs.Session.{Screen, State, replyRoom}
+use Rattle.rules.specs.Session.{Screen, State, replyRoom, state}
 use Rattle.rules.specs.Operation.{Ran, outcome, hostByte, running, takenOf}
 use Rattle.rules.proofs.Sound.{Sound, sound-running, passes}
 use Rattle.rules.proofs.Room.{room-byte}
-use Rattle.rules.proofs.Run.{running-append, silent-taken, taken-step}
+use Rattle.rules.proofs.Running.{running-append, silent-taken, taken-step}
 use Rattle.det.specs.declared.take.Turn.{Turn}
-use Rattle.reply.specs.Reply.{Emitted}
-use Rattle.det.specs.Lent.{hostTaken}
-use Rattle.det.specs.Take.{Accepts, part, Taking, QuietRun, Turned, QuietTurn}
+use Rattle.reply.specs.inner.Reply.{Emitted}
+use Rattle.det.specs.inner.Take.{Accepts, Taking, QuietTurn, hostTaken}
 use Rattle.det.proofs.ReplyLaws.{emitted-none, emitted-length, emitted-then, emitted-whole}
 use Rattle.det.proofs.TakeLaws.{accepted}
-
--- ---- parts of the input
-
-part-none : (from : ℕ) (input : List ℕ) → part from from input ≡ []
-part-none from input = let none : from - from ≡ 0 = omega arith in rw none
-
-part-one : (from : ℕ) (input : List ℕ) → from < length input → part from (from + 1) input ≡ getD input from 0 ∷ []
-part-one from input h = let one : from + 1 - from ≡ 1 = omega arith in rw (one, drop-cons input from 0 h)
-
-module _ {from mid end : ℕ} (input : List ℕ) (a : from ≤ mid) (b : mid ≤ end) where
-  part-then : part from end input ≡ part from mid input ++ part mid end input
-  part-then =
-      let long : end - from ≡ (mid - from) + (end - mid) = omega arith in
-      let here : from + (mid - from) ≡ mid = omega arith in
-      rw (long, take-add, drop-drop, here)
-
--- a part, and what is left after it
-part-rest : {from end : ℕ} (input : List ℕ) → from ≤ end → part from end input ++ drop end input ≡ drop from input
-part-rest {from} {end} input a =
-    let here : end ≡ from + (end - from) = omega arith in
-    let rest : drop end input ≡ drop (end - from) (drop from input) = ap (λ (k : ℕ). drop k input) here ∙ sym (drop-drop (end - from) from input) in
-    rw rest (take-append-drop (end - from) (drop from input))
 
 -- ---- none, and some after others
 
@@ -70,15 +49,15 @@ module _ {s s₁ s₂ : State} {input : List ℕ} {a b c : ℕ} {reply reply₁ 
         count = omega (arith, t .count, rw long at (u .count), t .onward, u .onward);
       }
 
--- ---- one byte, and a run
+-- ---- one byte, and a stretch
 
 running-one : (s : State) (b : ℕ) → running s (b ∷ []) ≡ hostByte s b
 unfolding running
 running-one s b = simp append-nil
 
-module _ {s : State} {reply : List ℕ} {at : ℕ} (a : Accepts s reply at) where
+module _ (s : State) (reply : List ℕ) (at : ℕ) (a : Accepts s reply at) where
   free : replyRoom (s .session .frame) ≤ length reply - at
-  free = omega (arith, accepted a .room, length-drop at reply)
+  free = omega (arith, accepted s reply at a .room, length-drop at reply)
 
   module _ {input : List ℕ} {from : ℕ} where
     pub taking-byte : from < length input → {s′ : State} {reply′ : List ℕ} {at′ : ℕ} → s′ ≡ (hostByte s (getD input from 0)) .state
@@ -91,39 +70,41 @@ module _ {s : State} {reply : List ℕ} {at : ℕ} (a : Accepts s reply at) wher
         record {
           onward = omega arith;
           within = omega arith;
-          room = omega (arith, p .next, room-byte (accepted a .sound) b, free);
+          room = omega (arith, p .next, room-byte (accepted s reply at a .sound) b, free);
           state = after ∙ rw ran;
           replies = rw ran p;
           count = rw (after, left) (omega (arith, taken-step s (length reply - at) input from h free));
         }
 
-    pub taking-run : {s′ : State} {end : ℕ} → QuietRun s input from s′ end → Taking s input from reply at s′ end reply at
-    taking-run {s′} {end} r =
-        let xs = part from end input in
-        let long = length-take-le (end - from) (drop from input) (omega (arith, length-drop from input, r .within)) in
-        let count = silent-taken (accepted a .sound) (length reply - at) xs (drop end input) free (ap (λ (q : Ran). length (q .replies)) (r .ran)) in
-        record {
-          onward = r .onward;
-          within = r .within;
-          room = omega (arith, free);
-          state = ap (λ (q : Ran). q .state) (sym (r .ran));
-          replies = rw (r .ran) emitted-none;
-          count = omega (arith, rw (part-rest input (r .onward), r .ran) at count, long);
-        }
-
     -- a turn that draws no reply
-    pub turned-quiet : {t : Turn} {b : Screen} → QuietTurn s input from at t b → Turned s input from reply at t b reply
-    turned-quiet q = record { taking = rw (q .same) (taking-run (q .run)); further = q .further }
+    pub taking-quiet : {t : Turn} {b : Screen} → QuietTurn s input from at t b
+        → (from < t .end) × Taking s input from reply at (state (t .session) b) (t .end) reply (t .written)
+    taking-quiet {t} {b} r =
+        let end = t .end in
+        let onward : from ≤ end = omega (arith, r .further) in
+        let long = length-take-le (end - from) (drop from input) (omega (arith, length-drop from input, r .within)) in
+        let quiet = ap (λ (q : Ran). length (q .replies)) (r .ran) in
+        let count = silent-taken (accepted s reply at a .sound) (length reply - at) (part from end input) (drop end input) free quiet in (
+          r .further,
+          rw (r .same) (record {
+            onward = onward;
+            within = r .within;
+            room = omega (arith, free);
+            state = ap (λ (q : Ran). q .state) (sym (r .ran));
+            replies = rw (r .ran) emitted-none;
+            count = omega (arith, rw (part-rest input onward, r .ran) at count, long);
+          }),
+        )
 
 -- ---- a whole call
 
-module _ {s₀ : State} {reply₀ : List ℕ} (a : Accepts s₀ reply₀ 0) {input : List ℕ} {s : State} {reply : List ℕ} {taken written : ℕ}
-    (t : Taking s₀ input 0 reply₀ 0 s taken reply written) where
+module _ {s₀ s : State} {input reply₀ reply : List ℕ} {taken written : ℕ} (t : Taking s₀ input 0 reply₀ 0 s taken reply written) where
   -- a byte is taken where there is room for a reply
-  pub taking-accepts : replyRoom (s .session .frame) ≤ length reply - written → Accepts s reply written
-  taking-accepts r =
-      let sound : Sound (s₀ .session .frame .width) (s₀ .session .frame .height) s = rw (t .state) (sound-running (accepted a .sound) (part 0 taken input)) in
-      record { tests = passes sound (drop written reply) (rw length-drop r) }
+  pub taking-accepts : Accepts s₀ reply₀ 0 → replyRoom (s .session .frame) ≤ length reply - written → Accepts s reply written
+  taking-accepts a r =
+      let sound : Sound (s₀ .session .frame .width) (s₀ .session .frame .height) s =
+      rw (t .state) (sound-running (accepted s₀ reply₀ 0 a .sound) (part 0 taken input)) in
+      passes sound (drop written reply) (rw length-drop r)
 
   -- where no more is taken, all is done
   pub taking-done : takenOf s (length reply₀ - written) (drop taken input) ≡ 0

@@ -19,15 +19,14 @@ use Rattle.rules.specs.Call.{key}
 use Rattle.rules.proofs.Sound.{Accepted, sound-of, passes}
 use Rattle.rules.proofs.Room.{room-key}
 use Rattle.decide.specs.declared.decision.Decision.{Decision}
-use Rattle.decide.specs.Decision.{changeOf, partsOf, meant, shown, Decides, whereFits}
+use Rattle.decide.specs.Decision.{edited, partsOf, meant, shown, Decides, whereFits}
 use Rattle.decide.specs.Writing.{pressedIfTaken}
 use Rattle.reply.specs.Written.{Wrote}
 use Rattle.reply.specs.Pieces.{sayPieces}
-use Rattle.reply.specs.Reply.{Sayable}
+use Rattle.reply.specs.inner.Reply.{Sayable}
 use Rattle.reply.proofs.ReplyLaws.{said}
-use Rattle.det.specs.Apply.{Changes}
-use Rattle.det.specs.Lent.{keyTaken}
-use Rattle.det.specs.Take.{Accepts, Permits}
+use Rattle.det.specs.inner.Apply.{Changes}
+use Rattle.det.specs.inner.Take.{Accepts, keyTaken}
 use Rattle.det.proofs.ReplyLaws.{emitted-whole}
 use Rattle.det.proofs.RefuseLaws.{passed-on, failed-first}
 use Rattle.decide.proofs.DecideLaws.{fits-rule}
@@ -40,7 +39,8 @@ module _ (s : State) (reply : List ℕ) (code : ℕ) {why : Refusal} (e : why �
   unfolding sizeTests
   refused-first h = e ∙ sym (failed-first _ _ (rw e at h))
 
-  pub refused-last : {k : Key} {r : Refusal} → why ≡ Taken → k ≡ keyOf code → r ≡ verdict (keyTests (viewOf s) k) → r ≡ keyRefusal s reply code
+  pub refused-last : {k : Key} {r : Refusal} → why ≡ Taken → k ≡ keyOf code → r ≡ verdict (keyTests (viewOf s) k)
+      → r ≡ keyRefusal s reply code
   unfolding sizeTests stateTests
   refused-last t q h = rw (passed-on _ _ refl (sym e ∙ t)) (h ∙ rw q)
 
@@ -55,22 +55,22 @@ keeps-attributes v Delete = refl
 keeps-attributes v (Function n) = refl
 keeps-attributes v Meaningless = refl
 
-module _ {s : State} {reply : List ℕ} {code : ℕ} (p : Permits s reply code) where
+module _ (s : State) (reply : List ℕ) (code : ℕ) (p : keyRefusal s reply code ≡ Taken) where
   found : Accepted s reply
-  found = sound-of s (key code reply) (ap isTaken (p .tests))
+  found = sound-of s (key code reply) (ap isTaken p)
 
   -- host bytes would be taken too
   permits-accepts : Accepts s reply 0
-  permits-accepts = record { tests = passes (found .sound) reply (found .room) }
+  permits-accepts = passes (found .sound) reply (found .room)
 
   module _ {k : Key} (q : k ≡ keyOf code) {d : Decision} (decided : Decides (viewOf s) d (whereFits (λ v. pressedIfTaken v k))) where
     -- the key passes its own tests
     permits-key : verdict (keyTests (viewOf s) k) ≡ Taken
     unfolding sizeTests stateTests
-    permits-key = rw q (sym (passed-on _ _ refl (permits-accepts .tests)) ∙ p .tests)
+    permits-key = rw q (sym (passed-on _ _ refl permits-accepts) ∙ p)
 
     t : Decides (viewOf s) d (λ v. pressed v k)
-    t = pressed-was k refl permits-key (fits-rule _ (accepts-fits permits-accepts) decided)
+    t = pressed-was k refl permits-key (fits-rule _ (accepts-fits s reply 0 permits-accepts) decided)
 
     key-means : meant (s .screen .attrs) d ≡ shown (pressed (viewOf s) (keyOf code))
     key-means = (rw q at t) .meaning
@@ -80,19 +80,19 @@ module _ {s : State} {reply : List ℕ} {code : ℕ} (p : Permits s reply code) 
 
     -- the reply can be written
     key-sayable : Sayable (d .say) (s .screen .chars) (s .screen .attrs) reply 0
-    key-sayable = sayable permits-accepts (t .sendable) (rw (← parts) at (room-key (found .sound) code))
+    key-sayable = sayable s reply 0 permits-accepts (t .sendable) (rw (← parts) at (room-key (found .sound) code))
 
     -- and what is done is what the key does
     pub key-settled : {f : Frame} {chars reply′ : List ℕ} {written : ℕ}
         → Wrote reply 0 (sayPieces (s .screen .chars) (s .screen .attrs) (d .say)) reply′ written
-        → Changes (changeOf (view (d .frame) (s .screen .attrs)) (d .change)) (s .screen) f chars
+        → Changes (edited (view (d .frame) (s .screen .attrs)) (d .edit)) (s .screen) f chars
         → outcome (record { session = session f (s .session .reader); refusal = Taken; taken = 1; written = written })
         (screen chars (s .screen .attrs)) reply′
         ≡ keyTaken s reply code
     key-settled m c =
         let emitted = rw parts at (said key-sayable m) in
         let frame = c .frame ∙ ap (λ (x : Effect). x .view .frame) key-means in
-        let chars = c .characters ∙ ap (λ (x : Effect). changedAll (s .screen .attrs) (x .changes) (s .screen .chars)) key-means in
+        let chars = c .characters ∙ ap (λ (x : Effect). changedAll (s .screen .chars) (s .screen .attrs) (x .changes)) key-means in
         let written = emitted .next ∙ zero-add _ in
         let reply = emitted-whole (rw parts at (key-sayable .room)) emitted in
         λ i. outcome (record { session = session (frame i) (s .session .reader); refusal = Taken; taken = 1; written = written i })

@@ -8,4 +8,4 @@ pub mod SettleLaws
 pub mod TakeLaws
 pub mod HostLaws
 pub mod KeyLaws
-pub mod ApartCode
+pub mod Noninterference

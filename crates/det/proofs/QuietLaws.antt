@@ -1,69 +1,63 @@
--- Laws of runs of bytes without an IAC, at rest and in a subnegotiation: they draw no reply.
-use mathlib.Core.Path.{_≡_, refl, sym, ap, _∙_}
+-- Laws of stretches of bytes without an IAC, at rest and in a subnegotiation: they draw no reply.
+use mathlib.Core.Path.{_≡_, refl, ap, _∙_}
 use mathlib.Core.List.{List, [], _∷_}
-use Prim.Native.Nat.{ℕ, suc, _+_, _-_, _≤_, _<_}
+use Prim.Native.Nat.{ℕ, suc, _<_}
 use native.Mathlib.Omega.{arith}
 use borrow.Author.Tests.{ne-eqb}
-use lib.ListN.{length, getD, drop, length-drop}
-use lib.Seq.{getD-drop}
+use lib.ListN.{length}
 use Rattle.telnet.specs.declared.Phase.{Phase}
-use Rattle.telnet.specs.declared.Phase.the-variants.{Rest, Iac, Inside, InsideIac}
+use Rattle.telnet.specs.declared.Phase.the-variants.{Rest, Inside}
+use Rattle.telnet.specs.declared.stretch.Stretch.{Stretch}
 use Rattle.telnet.specs.Reader.{readOf, inside}
-use Rattle.telnet.specs.Stream.{dataEnd}
+use Rattle.telnet.specs.Stream.{part, stretchOf}
 use Rattle.telnet.proofs.Laws.{No255}
-use Rattle.telnet.proofs.RunLaws.{run-plain, end-iac, end-forth, end-within}
+use Rattle.telnet.proofs.StretchLaws.{Lies, here, bytes, through, stretch-plain, stretch-lies, by-end}
 use Rattle.rules.specs.declared.Held.{Held}
 use Rattle.rules.specs.declared.Frame.{Frame}
-use Rattle.rules.specs.declared.Reader.{Reader}
 use Rattle.rules.specs.Session.{Screen, State, session, screen, state, view}
 use Rattle.rules.specs.Effect.{Effect, changedAll, spelledAll}
 use Rattle.rules.specs.Telnet.{holding, heldAfter, hostData}
 use Rattle.rules.specs.Operation.{Ran, happening, hostByte, applied, running}
 use Rattle.rules.proofs.Characters.{changed-append}
-use Rattle.rules.proofs.Run.{running-next}
-use Rattle.det.specs.Apply.{Changes}
-use Rattle.det.specs.Take.{part, atRest, insideOf, hostText, holdingAll, QuietRun}
+use Rattle.rules.proofs.Running.{running-append}
+use Rattle.det.specs.declared.take.Turn.{Turn}
+use Rattle.det.specs.inner.Apply.{Changes, hostText}
+use Rattle.det.specs.inner.Take.{holdingAll, QuietTurn}
 use Rattle.det.proofs.TakeLaws.{data-only}
-
--- a reader that stands at rest, or in a subnegotiation
-module _ (f : Frame) (r : Reader) where
-  pub rest-is : r .phase ≡ Rest → atRest f (r .held) ≡ session f r
-  rest-is p = ap (λ (x : Phase). session f (record { phase = x; held = r .held })) (sym p)
-
-  pub inside-is : (option : ℕ) → r .phase ≡ Inside option → insideOf f option (r .held) ≡ session f r
-  inside-is option p = ap (λ (x : Phase). session f (record { phase = x; held = r .held })) (sym p)
 
 -- nothing sent, nothing executed
 abbrev still : State → Ran
 still s = record { state = s; replies = []; executed = [] }
 
+-- the reader stands in this phase
+abbrev standing : Frame → Phase → Held → Screen → State
+standing f phase held b = state (session f (record { phase = phase; held = held })) b
+
 -- ---- one byte
 
 module _ (f : Frame) (held : Held) (b : Screen) where
-  abbrev at-phase : Phase → State
-  at-phase phase = state (session f (record { phase = phase; held = held })) b
-
   -- IAC, at rest and in a subnegotiation
-  rest-iac : hostByte (state (atRest f held) b) 255 ≡ still (at-phase Iac)
+  rest-iac : hostByte (standing f Rest held b) 255 ≡ still (standing f (readOf Rest 255 .phase) held b)
   unfolding hostByte happening heldAfter readOf changedAll spelledAll
   rest-iac = refl
 
-  inside-iac : (option : ℕ) → hostByte (state (insideOf f option held) b) 255 ≡ still (at-phase (InsideIac option))
+  inside-iac : (o : ℕ) → hostByte (standing f (Inside o) held b) 255 ≡ still (standing f (readOf (Inside o) 255 .phase) held b)
   unfolding hostByte happening heldAfter readOf inside changedAll spelledAll
-  inside-iac option = refl
+  inside-iac o = refl
 
   module _ {byte : ℕ} (n : byte ≡ 255 → ⊥) where
     -- any other byte at rest is data
     rest-data : {f′ : Frame} {chars : List ℕ} → Changes (hostData (view f (b .attrs)) byte) b f′ chars
-        → hostByte (state (atRest f held) b) byte ≡ still (state (atRest f′ held) (screen chars (b .attrs)))
+        → hostByte (standing f Rest held b) byte ≡ still (standing f′ Rest held (screen chars (b .attrs)))
     unfolding hostByte happening heldAfter readOf spelledAll
     rest-data d =
         rw (ne-eqb _ _ n)
-        (ap (λ (e : Effect). applied (state (atRest f held) b) (atRest f held .reader) e) (data-only (view f (b .attrs)) byte)
+        (ap (λ (e : Effect). applied (standing f Rest held b) (record { phase = Rest; held = held }) e) (data-only (view f (b .attrs)) byte)
         ∙ rw (← d .frame, ← d .characters))
 
     -- in a subnegotiation it is held
-    inside-held : (option : ℕ) → hostByte (state (insideOf f option held) b) byte ≡ still (state (insideOf f option (holding held byte)) b)
+    inside-held : (option : ℕ) → hostByte (standing f (Inside option) held b) byte
+        ≡ still (standing f (Inside option) (holding held byte) b)
     unfolding hostByte happening heldAfter readOf inside holding changedAll spelledAll
     inside-held option = rw (ne-eqb _ _ n)
 
@@ -71,8 +65,8 @@ module _ (f : Frame) (held : Held) (b : Screen) where
 
 data-ran : (xs : List ℕ) → No255 xs → (f : Frame) (held : Held) (b : Screen) →
     let e = hostText (view f (b .attrs)) xs in
-    running (state (atRest f held) b) xs
-    ≡ still (state (atRest (e .view .frame) held) (screen (changedAll (b .attrs) (e .changes) (b .chars)) (b .attrs)))
+    running (standing f Rest held b) xs
+    ≡ still (standing (e .view .frame) Rest held (screen (changedAll (b .chars) (b .attrs) (e .changes)) (b .attrs)))
 unfolding running hostText changedAll
 data-ran [] n f held b = refl
 data-ran (x ∷ xs) n f held b =
@@ -80,54 +74,57 @@ data-ran (x ∷ xs) n f held b =
     let e = hostData v x in
     let one = rest-data f held b (n 0 (omega arith)) (record { frame = refl; characters = refl }) in
     let kept : e .view ≡ view (e .view .frame) (b .attrs) = ap (λ (q : Effect). q .view) (data-only v x) in
-    let rest = data-ran xs (λ k h. n (suc k) (omega arith)) (e .view .frame) held (screen (changedAll (b .attrs) (e .changes) (b .chars)) (b .attrs)) in
+    let after = screen (changedAll (b .chars) (b .attrs) (e .changes)) (b .attrs) in
+    let rest = data-ran xs (λ k h. n (suc k) (omega arith)) (e .view .frame) held after in
     rw (one, rest, kept, changed-append)
 
 held-ran : (xs : List ℕ) → No255 xs → (f : Frame) (option : ℕ) (held : Held) (b : Screen)
-    → running (state (insideOf f option held) b) xs ≡ still (state (insideOf f option (holdingAll held xs)) b)
+    → running (standing f (Inside option) held b) xs ≡ still (standing f (Inside option) (holdingAll held xs) b)
 unfolding running holdingAll
 held-ran [] n f option held b = refl
 held-ran (x ∷ xs) n f option held b =
     rw (inside-held f held b (n 0 (omega arith)) option, held-ran xs (λ k h. n (suc k) (omega arith)) f option (holding held x) b)
 
--- ---- runs of the input
+-- ---- a stretch of the input
 
--- one byte longer
-run-next : {s₀ s s′ : State} {input : List ℕ} {from at : ℕ} → QuietRun s₀ input from s at → at < length input
-    → hostByte s (getD input at 0) ≡ still s′ → QuietRun s₀ input from s′ (at + 1)
-run-next {s₀} {input = input} {from = from} {at = at} r h one =
-    let longer : at + 1 - from ≡ at - from + 1 = omega (arith, r .onward) in
-    let here : from + (at - from) ≡ at = omega (arith, r .onward) in
-    let next = running-next s₀ (drop from input) (at - from) (omega (arith, length-drop from input, r .onward)) in
-    record { onward = omega (arith, r .onward); within = omega arith; ran = rw (longer, next, r .ran, getD-drop, here, one) }
+module _ (input : List ℕ) (from : ℕ) (p : Phase) where
+  -- its bytes draw no reply, and neither does the IAC after them
+  quiet-through : (s : State) (after : Phase → State) → running s (bytes input from p) ≡ still (after p)
+      → hostByte (after p) 255 ≡ still (after (readOf p 255 .phase))
+      → running s (through input from p) ≡ still (after (here input from p .phase))
+  unfolding running
+  quiet-through s after r iac =
+      by-end input from p (λ bs q. running s bs ≡ still (after q)) r (running-append s (bytes input from p) (255 ∷ []) ∙ rw (r, iac))
 
-module _ (input : List ℕ) (from : ℕ) {end : ℕ} (e : end ≡ dataEnd input from) (start : from ≤ length input) where
-  plain : No255 (part from end input)
-  plain = rw e (run-plain input from)
+-- a turn that ends with a stretch
+abbrev turn : Stretch → Frame → Held → ℕ → Turn
+turn t f held at = record { session = session f (record { phase = t .phase; held = held }); end = t .next; written = at }
 
-  onward : from ≤ end
-  onward = rw e (end-forth input from)
+module _ {input : List ℕ} {from : ℕ} (h : from < length input) (p : Phase) {t : Stretch} (e : t ≡ stretchOf p input from) where
+  pub lies : Lies input from t
+  lies = rw e (stretch-lies input from p h)
 
-  within : end ≤ length input
-  within = rw e (end-within input from start)
+  quiet-turn : {s : State} {f : Frame} {held : Held} {b : Screen} (at : ℕ)
+      → running s (part from (t .next) input) ≡ still (standing f (t .phase) held b)
+      → QuietTurn s input from at (turn t f held at) b
+  quiet-turn at ran = record { further = lies .further; within = lies .within; ran = ran; same = refl }
 
-  at-iac : end < length input → getD input end 0 ≡ 255
-  at-iac = rw e (end-iac input from)
+  -- data
+  pub text-turn : {f f′ : Frame} {held : Held} {b : Screen} {chars : List ℕ} (at : ℕ) → p ≡ Rest
+      → Changes (hostText (view f (b .attrs)) (part from (t .end) input)) b f′ chars
+      → QuietTurn (standing f p held b) input from at (turn t f′ held at) (screen chars (b .attrs))
+  text-turn {f} {f′} {held} {b} {chars} at q c =
+      let d = rw (e, q) at c in
+      quiet-turn at (rw (e, q) (quiet-through input from Rest (standing f Rest held b) (λ x. standing f′ x held (screen chars (b .attrs)))
+      (data-ran (bytes input from Rest) (stretch-plain input from Rest) f held b ∙ rw (← d .frame, ← d .characters))
+      (rest-iac f′ held (screen chars (b .attrs)))))
 
-  -- data, and the IAC after it
-  module _ {f f′ : Frame} {b : Screen} {chars : List ℕ} (held : Held) (c : Changes (hostText (view f (b .attrs)) (part from end input)) b f′ chars) where
-    pub run-data : QuietRun (state (atRest f held) b) input from (state (atRest f′ held) (screen chars (b .attrs))) end
-    run-data = record { onward = onward; within = within; ran = data-ran (part from end input) plain f held b ∙ rw (← c .frame, ← c .characters) }
-
-    pub run-data-iac : end < length input
-        → QuietRun (state (atRest f held) b) input from (state (session f′ (record { phase = Iac; held = held })) (screen chars (b .attrs))) (end + 1)
-    run-data-iac h = run-next run-data h (rw (at-iac h) (rest-iac f′ held (screen chars (b .attrs))))
-
-  -- a subnegotiation's bytes, and the IAC after them
-  module _ {held held′ : Held} (f : Frame) (option : ℕ) (b : Screen) (c : held′ ≡ holdingAll held (part from end input)) where
-    pub run-held : QuietRun (state (insideOf f option held) b) input from (state (insideOf f option held′) b) end
-    run-held = record { onward = onward; within = within; ran = held-ran (part from end input) plain f option held b ∙ rw (← c) }
-
-    pub run-held-iac : end < length input
-        → QuietRun (state (insideOf f option held) b) input from (state (session f (record { phase = InsideIac option; held = held′ })) b) (end + 1)
-    run-held-iac h = run-next run-held h (rw (at-iac h) (inside-iac f held′ b option))
+  -- a subnegotiation's bytes
+  pub payload-turn : {f : Frame} {held held′ : Held} {b : Screen} (at o : ℕ) → p ≡ Inside o
+      → held′ ≡ holdingAll held (part from (t .end) input)
+      → QuietTurn (standing f p held b) input from at (turn t f held′ at) b
+  payload-turn {f} {held} {held′} {b} at o q c =
+      let d = rw (e, q) at c in
+      quiet-turn at (rw (e, q) (quiet-through input from (Inside o) (standing f (Inside o) held b) (λ x. standing f x held′ b)
+      (held-ran (bytes input from (Inside o)) (stretch-plain input from (Inside o)) f o held b ∙ rw (← d))
+      (inside-iac f held′ b o)))

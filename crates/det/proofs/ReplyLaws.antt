@@ -6,7 +6,7 @@ use native.Mathlib.Nat.{add-zero, zero-add, add-suc, suc-add}
 use native.Mathlib.Omega.{arith}
 use lib.ListN.{length, drop, length-append}
 use lib.Seq.{sets, sets-eq, length-sets}
-use Rattle.reply.specs.Reply.{Room, Emitted}
+use Rattle.reply.specs.inner.Reply.{Room, Emitted}
 
 -- two runs of stores in a row are one
 sets-append : (xs buf : List ℕ) (at : ℕ) (ys : List ℕ) → sets (sets buf at xs) (at + length xs) ys ≡ sets buf at (xs ++ ys)
@@ -30,5 +30,6 @@ module _ {buf : List ℕ} {at : ℕ} {xs buf₁ : List ℕ} {at₁ : ℕ} (p : E
   }
 
 -- written from the start: the bytes at the front, the rest as lent
-pub emitted-whole : {buf bytes buf₁ : List ℕ} {at₁ : ℕ} → Room buf 0 bytes → Emitted buf 0 bytes buf₁ at₁ → buf₁ ≡ bytes ++ drop (length bytes) buf
+pub emitted-whole : {buf bytes buf₁ : List ℕ} {at₁ : ℕ} → Room buf 0 bytes → Emitted buf 0 bytes buf₁ at₁
+    → buf₁ ≡ bytes ++ drop (length bytes) buf
 emitted-whole {buf} {bytes} room p = p .stored ∙ sets-eq bytes buf 0 room ∙ rw zero-add

@@ -18,7 +18,7 @@ use Rattle.rules.specs.Session.{Screen, State, freshFrame, fresh, screen}
 use Rattle.rules.specs.Refusal.{isTaken, verdict, sizeTests}
 use Rattle.rules.specs.Operation.{Outcome, outcome, unless, opened}
 use Rattle.rules.proofs.Refusals.{all-pass}
-use Rattle.det.specs.Lent.{refusedAnswer}
+use Rattle.det.specs.inner.Take.{refusedAnswer}
 use Rattle.decide.proofs.ObeyLaws.{all-zeros}
 use Rattle.det.proofs.RefuseLaws.{bounds}
 

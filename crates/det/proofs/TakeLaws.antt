@@ -1,10 +1,15 @@
--- Laws of one host byte: what is decided on what the reader told, and what the decision does.
+-- Laws of one host byte: what is decided on its event, and what the decision does.
 use mathlib.Core.Path.{_≡_, refl, sym, ap, _∙_}
-use mathlib.Core.List.{List, []}
+use mathlib.Core.List.{List, [], _∷_}
 use Prim.Native.Nat.{ℕ, _+_, _≤_}
 use native.Mathlib.Omega.{arith}
 use lib.Dec.{eqb}
 use lib.ListN.{length, drop, length-drop}
+use types.Run.{OneOf, miss}
+use denote.Enum.Declared.{tagOf}
+use Rattle.telnet.proofs.Event.{the-type}
+use Rattle.telnet.specs.declared.Event.{Event}
+use Rattle.telnet.specs.declared.Event.the-variants.{Nothing, Data, Negotiation, Begin, Sub, End, EndBare, Lost}
 use Rattle.telnet.specs.declared.Step.{Step}
 use Rattle.telnet.specs.Reader.{readOf}
 use Rattle.screen.proofs.WordLaws.{either}
@@ -15,7 +20,8 @@ use Rattle.rules.specs.declared.Refusal.the-variants.{Taken}
 use Rattle.rules.specs.Session.{Screen, State, View, printable, replyRoom, session, screen, state, view, viewOf}
 use Rattle.rules.specs.Refusal.{isTaken}
 use Rattle.rules.specs.Effect.{Effect, changedAll, spelledAll, changing, quiet}
-use Rattle.rules.specs.Telnet.{heldAfter, cursorGuarded, hostCharacter, hostData}
+use Rattle.rules.specs.Telnet.{heldAfter, hostCharacter, hostData}
+use Rattle.rules.specs.Cursor.{cursorGuarded}
 use Rattle.rules.specs.Operation.{applied, happening, hostByte, hostRefusal}
 use Rattle.rules.specs.Call.{host}
 use Rattle.rules.proofs.Sound.{Accepted, sound-of}
@@ -23,14 +29,14 @@ use Rattle.rules.proofs.Room.{room-byte}
 use Rattle.decide.specs.declared.decision.Decision.{Decision}
 use Rattle.decide.specs.declared.decision.Say.{Say}
 use Rattle.det.specs.declared.apply.Applied.{Applied}
-use Rattle.command.specs.Frame.{Fits}
+use Rattle.command.specs.inner.Frame.{Fits}
 use Rattle.decide.specs.Decision.{meant, shown, partsOf, Sendable, Decides}
-use Rattle.reply.specs.Reply.{Emitted, Sayable}
-use Rattle.det.specs.Apply.{Changes, Applies}
-use Rattle.det.specs.Take.{Accepts, Answerable}
+use Rattle.reply.specs.inner.Reply.{Emitted, Sayable}
+use Rattle.det.specs.inner.Apply.{Changes, Applies, Answerable}
+use Rattle.det.specs.inner.Take.{Accepts}
 use Rattle.det.proofs.ReplyLaws.{emitted-none}
 
--- ---- what the reader told, done
+-- ---- what is done on an event
 
 -- an effect that is decided by a rule
 module _ {e : Effect} {f : Frame} {b : Screen} {reply : List ℕ} {at : ℕ} (a : Answerable e f b reply at)
@@ -56,10 +62,22 @@ module _ {e : Effect} {f : Frame} {b : Screen} {reply : List ℕ} {at : ℕ} (a 
       }
 
 -- nothing is done
-pub nothing-applies : {e : Effect} {f : Frame} {b : Screen} {reply : List ℕ} {at : ℕ} {done : Applied} → done ≡ record { frame = f; written = at }
-    → e ≡ quiet (view f (b .attrs)) → Applies e b reply at done b reply
+pub nothing-applies : {e : Effect} {f : Frame} {b : Screen} {reply : List ℕ} {at : ℕ} → e ≡ quiet (view f (b .attrs))
+    → Applies e b reply at (record { frame = f; written = at }) b reply
 unfolding changedAll spelledAll
-nothing-applies p q = rw (p, q) (record { changes = record { frame = refl; characters = refl }; attributes = refl; replies = emitted-none })
+nothing-applies q = rw q (record { changes = record { frame = refl; characters = refl }; attributes = refl; replies = emitted-none })
+
+-- the events on which nothing is done: all but data, a negotiation and an end
+pub idle : (v : View) (h : Held) (e : Event) → OneOf (0 ∷ 3 ∷ 4 ∷ 6 ∷ 7 ∷ []) (tagOf the-type e) → happening v h e ≡ quiet v
+unfolding happening
+idle v h Nothing k = refl
+idle v h (Data b) k = absurd (miss (0 ∷ 3 ∷ 4 ∷ 6 ∷ 7 ∷ []) 1 tt k)
+idle v h (Negotiation verb option) k = absurd (miss (0 ∷ 3 ∷ 4 ∷ 6 ∷ 7 ∷ []) 2 tt k)
+idle v h (Begin option) k = refl
+idle v h (Sub option b) k = refl
+idle v h (End option) k = absurd (miss (0 ∷ 3 ∷ 4 ∷ 6 ∷ 7 ∷ []) 5 tt k)
+idle v h EndBare k = refl
+idle v h Lost k = refl
 
 -- ---- host data
 
@@ -72,28 +90,28 @@ data-only v b =
     (λ t. either only (cursorGuarded v) (λ g. refl) (λ g. refl))
     (λ t. either only (eqb b 13) (λ p. refl) (λ p. either only (eqb b 10) (λ q. refl) (λ q. either only (eqb b 8) (λ r. refl) (λ r. refl))))
 
-pub data-applies : (f : Frame) (byte : ℕ) {f′ : Frame} {b : Screen} {chars reply : List ℕ} {at : ℕ} {done : Applied}
-    → Changes (hostData (view f (b .attrs)) byte) b f′ chars → done ≡ record { frame = f′; written = at }
-    → Applies (hostData (view f (b .attrs)) byte) b reply at done (screen chars (b .attrs)) reply
+pub data-applies : (f : Frame) (byte : ℕ) {f′ : Frame} {b : Screen} {chars reply : List ℕ} {at : ℕ}
+    → Changes (hostData (view f (b .attrs)) byte) b f′ chars
+    → Applies (hostData (view f (b .attrs)) byte) b reply at (record { frame = f′; written = at }) (screen chars (b .attrs)) reply
 unfolding spelledAll
-data-applies f byte {b = b} k p =
+data-applies f byte {b = b} k =
     let only = data-only (view f (b .attrs)) byte in
-    rw p (record {
+    record {
       changes = k;
       attributes = ap (λ (e : Effect). e .view .attrs) (sym only);
       replies = rw (ap (λ (e : Effect). e .reply) only) emitted-none;
-    })
+    }
 
 -- ---- a byte that is taken
 
 -- what a call that is not refused finds
 pub accepts-start : (s : State) (reply : List ℕ) {why : Refusal} → why ≡ hostRefusal s reply → why ≡ Taken → Accepts s reply 0
-accepts-start s reply e t = record { tests = sym e ∙ t }
+accepts-start s reply e t = sym e ∙ t
 
-module _ {s : State} {reply : List ℕ} {at : ℕ} (a : Accepts s reply at) where
+module _ (s : State) (reply : List ℕ) (at : ℕ) (a : Accepts s reply at) where
   -- and what it knows
   pub accepted : Accepted s (drop at reply)
-  accepted = sound-of s (host [] (drop at reply)) (ap isTaken (a .tests))
+  accepted = sound-of s (host [] (drop at reply)) (ap isTaken a)
 
   -- what a decision asks
   pub accepts-fits : Fits (viewOf s)
@@ -115,17 +133,17 @@ module _ {s : State} {reply : List ℕ} {at : ℕ} (a : Accepts s reply at) wher
   sayable t h = record { sendable = t; long = equally-long; room = fits-worst h }
 
   module _ (byte : ℕ) {step : Step} (e : step ≡ readOf (s .session .reader .phase) byte) where
-    -- what a byte told
-    abbrev told : Effect
-    told = happening (viewOf s) (s .session .reader .held) (step .event)
+    -- what is done on the event that the byte tells
+    abbrev happens : Effect
+    happens = happening (viewOf s) (s .session .reader .held) (step .event)
 
     byte-is : hostByte s byte
-        ≡ applied s (record { phase = step .phase; held = heldAfter (s .session .reader .held) (step .event) }) told
+        ≡ applied s (record { phase = step .phase; held = heldAfter (s .session .reader .held) (step .event) }) happens
     unfolding hostByte
     byte-is = rw (← e)
 
     -- the reply to it can be written
-    pub byte-answerable : Answerable told (s .session .frame) (s .screen) reply at
+    pub byte-answerable : Answerable happens (s .session .frame) (s .screen) reply at
     byte-answerable = record {
       fits = accepts-fits;
       long = equally-long;
@@ -133,7 +151,7 @@ module _ {s : State} {reply : List ℕ} {at : ℕ} (a : Accepts s reply at) wher
     }
 
     -- and what is done is what the byte does
-    module _ {done : Applied} {b : Screen} {reply′ : List ℕ} (h : Applies told (s .screen) reply at done b reply′) where
+    module _ {done : Applied} {b : Screen} {reply′ : List ℕ} (h : Applies happens (s .screen) reply at done b reply′) where
       pub byte-state : {held : Held} → held ≡ heldAfter (s .session .reader .held) (step .event)
           → state (session (done .frame) (record { phase = step .phase; held = held })) b ≡ (hostByte s byte) .state
       byte-state q =

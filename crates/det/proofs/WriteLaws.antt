@@ -14,9 +14,10 @@ use Rattle.decide.specs.declared.text.Writer.the-variants.{Host}
 use Rattle.decide.specs.declared.text.Fate.the-variants.{Written}
 use Rattle.decide.proofs.text.Fate.{the-type}
 use Rattle.decide.specs.declared.text.Writing.{Writing}
-use Rattle.decide.specs.Writing.{placeAfter, ifWritten, afterFate, effectOf, Writes}
-use Rattle.decide.proofs.WriteLaws.{by-fate, not-written, effect-is}
-use Rattle.det.specs.Apply.{Changes}
+use Rattle.decide.specs.Writing.{placeAfter, afterFate, controlOf, Writes}
+use Rattle.decide.specs.inner.Writing.{ifWritten}
+use Rattle.decide.proofs.WriteLaws.{by-fate, not-written, control-is}
+use Rattle.det.specs.inner.Apply.{Changes}
 
 module _ {v : View} {c : ℕ} {w : Writing} (one : Writes v Host c w) where
   host-by-fate : hostCharacter v c
@@ -24,7 +25,8 @@ module _ {v : View} {c : ℕ} {w : Writing} (one : Writes v Host c w) where
   host-by-fate = by-fate v c ∙ rw (← one .fate)
 
   -- not written, it changes nothing
-  pub unwritten : {chars : List ℕ} → OneOf (1 ∷ 2 ∷ 3 ∷ []) (tagOf the-type (w .fate)) → Changes (hostCharacter v c) (screen chars (v .attrs)) (v .frame) chars
+  pub unwritten : {chars : List ℕ} → OneOf (1 ∷ 2 ∷ 3 ∷ []) (tagOf the-type (w .fate))
+      → Changes (hostCharacter v c) (screen chars (v .attrs)) (v .frame) chars
   unfolding changedAll
   unwritten h = rw (host-by-fate, not-written (w .fate) h) (record { frame = refl; characters = refl })
 
@@ -35,7 +37,7 @@ module _ {v : View} {c : ℕ} {w : Writing} (one : Writes v Host c w) where
   written e p q = rw (host-by-fate, one .frame, e) (record { frame = refl; characters = q ∙ rw p })
 
 -- host data that is no character moves the cursor at most
-pub unprinted : (v : View) {f : Frame} {chars : List ℕ} (b : ℕ) → printable b ≡ false → effectOf v b ≡ quiet (view f (v .attrs))
+pub unprinted : (v : View) {f : Frame} {chars : List ℕ} (b : ℕ) → printable b ≡ false → controlOf v b ≡ quiet (view f (v .attrs))
     → Changes (hostData v b) (screen chars (v .attrs)) f chars
 unfolding changedAll
-unprinted v b e q = rw (effect-is _ _ e ∙ q) (record { frame = refl; characters = refl })
+unprinted v b e q = rw (control-is _ _ e ∙ q) (record { frame = refl; characters = refl })

@@ -1,3 +1,3 @@
 pub mod Lent
-pub mod Apply
-pub mod Take
+pub mod Noninterference
+pub mod inner

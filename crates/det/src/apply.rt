@@ -1,15 +1,16 @@
-// A decision, applied: the reply is written from the characters as they are, then the characters change, then the attribute bytes.
+// A decision is applied: the reply is written from the characters as they are, then the characters change, then the attribute bytes.
 ghost use mathlib.Core.Path.{_≡_};
 ghost use Rattle.rules.specs.Effect.{changedAll};
 ghost use Rattle.command.specs.Frame.{seen};
-ghost use Rattle.decide.specs.Decision.{changeOf, editsOf, attrsOf, meant};
-ghost use Rattle.reply.specs.Reply.{Sayable};
+ghost use Rattle.decide.specs.Decision.{edited, attrsOf, meant};
+ghost use Rattle.decide.specs.inner.Decision.{changesOf};
+ghost use Rattle.reply.specs.inner.Reply.{Sayable};
 ghost use Rattle.det.specs.Lent.{lent};
-ghost use Rattle.det.specs.Apply.{Changes, Applies};
-use crate::data::put;
+ghost use Rattle.det.specs.inner.Apply.{Changes, Applies};
 use crate::data::put_character;
-use decide::decision::Change;
+use crate::data::set_cell;
 use decide::decision::Decision;
+use decide::decision::Edit;
 use decide::decision::Format;
 use reply::write_reply;
 use rules::Frame;
@@ -23,25 +24,25 @@ pub struct Applied {
 }
 
 // A change other than REPEAT.
-fn change_cells(change: Change, chars: &mut [u8], attrs: &[u8])
-    ensures { λ _. ⌜ now (chars .exit) ≡ changedAll (now (attrs .entry)) (editsOf change) (now (chars .entry)) ⌝ }
+fn change_cells(edit: Edit, chars: &mut [u8], attrs: &[u8])
+    ensures { λ _. ⌜ now (chars .exit) ≡ changedAll (now (chars .entry)) (now (attrs .entry)) (changesOf edit) ⌝ }
 {
-    match change {
-        Change::Nothing => {}
-        Change::Put { cell, byte } => put(chars, cell, byte),
-        Change::Erase {
+    match edit {
+        Edit::Nothing => {}
+        Edit::Put { cell, byte } => set_cell(chars, cell, byte),
+        Edit::Erase {
             suppressed,
             from,
             end,
         } => erase(suppressed, chars, attrs, from, end),
-        Change::Shift { shift, from, end } => shift_range(chars, from, end, shift, 1),
-        Change::Repeat { count: _, byte: _ } => {}
+        Edit::Shift { shift, from, end } => shift_range(chars, from, end, shift, 1),
+        Edit::Repeat { count: _, byte: _ } => {}
     }
 }
 
 // 37: a host character so many times.
 fn repeat(frame: Frame, count: u8, byte: u8, chars: &mut [u8], attrs: &[u8]) -> Frame
-    ensures { λ r. ⌜ Changes (changeOf (seen frame (attrs .entry)) (Change.Repeat count byte))
+    ensures { λ r. ⌜ Changes (edited (seen frame (attrs .entry)) (Edit.Repeat count byte))
         (lent (chars .entry) (attrs .entry)) r (now (chars .exit)) ⌝ }
 {
     let mut now = frame;
@@ -54,11 +55,11 @@ fn repeat(frame: Frame, count: u8, byte: u8, chars: &mut [u8], attrs: &[u8]) -> 
 }
 
 // The frame afterwards: REPEAT moves the cursor as it writes.
-pub(crate) fn change_chars(frame: Frame, change: Change, chars: &mut [u8], attrs: &[u8]) -> Frame
-    ensures { λ r. ⌜ Changes (changeOf (seen frame (attrs .entry)) change) (lent (chars .entry) (attrs .entry)) r (now (chars .exit)) ⌝ }
+pub(crate) fn change_chars(frame: Frame, edit: Edit, chars: &mut [u8], attrs: &[u8]) -> Frame
+    ensures { λ r. ⌜ Changes (edited (seen frame (attrs .entry)) edit) (lent (chars .entry) (attrs .entry)) r (now (chars .exit)) ⌝ }
 {
-    let Change::Repeat { count, byte } = change else {
-        change_cells(change, chars, attrs);
+    let Edit::Repeat { count, byte } = edit else {
+        change_cells(edit, chars, attrs);
         return frame;
     };
     repeat(frame, count, byte, chars, attrs)
@@ -87,8 +88,8 @@ pub(crate) fn apply(
 {
     let say = decision.say;
     let next = write_reply(say, chars, attrs, reply, at);
-    let change = decision.change;
-    let frame = change_chars(decision.frame, change, chars, attrs);
+    let edit = decision.edit;
+    let frame = change_chars(decision.frame, edit, chars, attrs);
     let format = decision.format;
     format_attrs(format, attrs);
     Applied {

@@ -1,21 +1,19 @@
-// Host data, done: characters are written into their cells, and the cursor moves.
+// Host data: characters are written into their cells, and the cursor moves.
 ghost use mathlib.Core.Path.{_≡_};
 ghost use lib.ListN.{set};
-ghost use Rattle.telnet.specs.Stream.{dataEnd};
 ghost use Rattle.rules.specs.Telnet.{hostCharacter, hostData};
 ghost use Rattle.command.specs.Frame.{seen};
 ghost use Rattle.det.specs.Lent.{lent};
-ghost use Rattle.det.specs.Apply.{Changes};
-ghost use Rattle.det.specs.Take.{part, hostText};
-use command::code::is_printable;
+ghost use Rattle.det.specs.inner.Apply.{Changes, hostText};
+use command::character::is_printable;
 use command::frame::cursor_cell;
 use decide::text::Fate;
-use decide::text::effect;
+use decide::text::control;
 use decide::text::write_host;
 use rules::Frame;
 
 // A cell takes a character, where there is such a cell.
-pub(crate) fn put(chars: &mut [u8], cell: usize, byte: u8)
+pub(crate) fn set_cell(chars: &mut [u8], cell: usize, byte: u8)
     ensures { λ _. ⌜ now (chars .exit) ≡ set (now (chars .entry)) cell byte ⌝ }
 {
     if cell < chars.len() {
@@ -32,7 +30,7 @@ pub(crate) fn put_character(frame: Frame, byte: u8, chars: &mut [u8], attrs: &[u
     let Fate::Written = fate else {
         return frame;
     };
-    put(chars, cursor_cell(frame), byte);
+    set_cell(chars, cursor_cell(frame), byte);
     writing.frame
 }
 
@@ -44,39 +42,19 @@ pub(crate) fn take_data(frame: Frame, byte: u8, chars: &mut [u8], attrs: &[u8]) 
     if text {
         return put_character(frame, byte, chars, attrs);
     }
-    effect(frame, byte)
+    control(frame, byte)
 }
 
-// The frame after a run of data, and where the run ends in the input.
-pub struct Run {
-    pub frame: Frame,
-    pub end: usize,
-}
-
-// Data from a place in the input on, up to the next IAC: it does what its bytes do one after the other.
-pub(crate) fn take_run(
-    frame: Frame,
-    input: &[u8],
-    from: usize,
-    chars: &mut [u8],
-    attrs: &[u8],
-) -> Run
-    ensures { λ r. ⌜ r .end ≡ dataEnd (now (input .entry)) from ⌝ }
-    ensures { λ r. ⌜ Changes (hostText (seen frame (attrs .entry)) (part from (r .end) (now (input .entry))))
-        (lent (chars .entry) (attrs .entry)) (r .frame) (now (chars .exit)) ⌝ }
+// Data, one byte after the other: the frame after it.
+pub(crate) fn host_text(frame: Frame, bytes: &[u8], chars: &mut [u8], attrs: &[u8]) -> Frame
+    ensures { λ r. ⌜ Changes (hostText (seen frame (attrs .entry)) (now (bytes .entry)))
+        (lent (chars .entry) (attrs .entry)) r (now (chars .exit)) ⌝ }
 {
     let mut now = frame;
-    let mut at = from;
-    while at < input.len() {
-        let byte = input[at];
-        if byte == 255 {
-            break;
-        }
-        now = take_data(now, byte, chars, attrs);
+    let mut at = 0;
+    while at < bytes.len() {
+        now = take_data(now, bytes[at], chars, attrs);
         at += 1;
     }
-    Run {
-        frame: now,
-        end: at,
-    }
+    now
 }

@@ -1,10 +1,10 @@
 // The three operations: open, host bytes, one key. They ask nothing of their caller.
 ghost use mathlib.Core.Path.{_≡_};
 ghost use mathlib.Core.List.{[]};
-ghost use Rattle.rules.specs.Session.{fresh, state};
+ghost use Rattle.rules.specs.Session.{session, fresh, state};
 ghost use Rattle.rules.specs.Operation.{outcome, opened, hostBytes, keyRefusal, oneKey};
-ghost use Rattle.det.specs.Lent.{lent, refusedAnswer, hostTaken, keyTaken};
-ghost use Rattle.det.specs.Take.{Accepts, Permits};
+ghost use Rattle.det.specs.Lent.{lent};
+ghost use Rattle.det.specs.inner.Take.{Accepts, refusedAnswer, hostTaken, keyTaken};
 use crate::apply::change_chars;
 use crate::refuse::refuse;
 use crate::refuse::refuse_sizes;
@@ -74,25 +74,20 @@ fn take_all(
     ensures { λ r. ⌜ outcome r (lent (chars .exit) (attrs .exit)) (now (reply .exit))
         ≡ hostTaken (state session (lent (chars .entry) (attrs .entry))) (now (reply .entry)) (now (input .entry)) ⌝ }
 {
-    let mut frame = session.frame;
-    let mut reader = session.reader;
+    let mut now = session;
     let mut taken = 0;
     let mut written = 0;
     while taken < input.len() {
-        if reply.len() - written < reply_room(frame) {
+        if reply.len() - written < reply_room(now.frame) {
             break;
         }
-        let turn = take_turn(frame, reader, input, taken, chars, attrs, reply, written);
-        frame = turn.frame;
-        reader = turn.reader;
+        let turn = take_turn(now, input, taken, chars, attrs, reply, written);
+        now = turn.session;
         taken = turn.end;
         written = turn.written;
     }
     Answer {
-        session: Session {
-            frame: frame,
-            reader: reader,
-        },
+        session: now,
         refusal: Refusal::Taken,
         taken: taken,
         written: written,
@@ -111,9 +106,20 @@ fn refuse_key(session: Session, code: u8, chars: &[u8], attrs: &[u8], reply: &[u
     refuse_pressed(session.frame, attrs, meaning)
 }
 
+// The reader stays where it stands.
+fn with_frame(before: Session, frame: Frame) -> Session
+    ensures { λ r. ⌜ r ≡ session frame (before .reader) ⌝ }
+{
+    let reader = before.reader;
+    Session {
+        frame: frame,
+        reader: reader,
+    }
+}
+
 // A key that is not refused.
 fn take_key(session: Session, code: u8, chars: &mut [u8], attrs: &[u8], reply: &mut [u8]) -> Answer
-    requires { ⌜ Permits (state session (lent chars attrs)) (now reply) code ⌝ }
+    requires { ⌜ keyRefusal (state session (lent chars attrs)) (now reply) code ≡ Refusal.Taken ⌝ }
     ensures { λ r. ⌜ outcome r (lent (chars .exit) (attrs .entry)) (now (reply .exit))
         ≡ keyTaken (state session (lent (chars .entry) (attrs .entry))) (now (reply .entry)) code ⌝ }
 {
@@ -121,14 +127,10 @@ fn take_key(session: Session, code: u8, chars: &mut [u8], attrs: &[u8], reply: &
     let decision = press(session.frame, attrs, meaning);
     let say = decision.say;
     let written = write_reply(say, chars, attrs, reply, 0);
-    let change = decision.change;
-    let frame = change_chars(decision.frame, change, chars, attrs);
-    let reader = session.reader;
+    let edit = decision.edit;
+    let frame = change_chars(decision.frame, edit, chars, attrs);
     Answer {
-        session: Session {
-            frame: frame,
-            reader: reader,
-        },
+        session: with_frame(session, frame),
         refusal: Refusal::Taken,
         taken: 1,
         written: written,

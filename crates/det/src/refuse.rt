@@ -4,7 +4,7 @@ ghost use Rattle.rules.specs.Session.{sizesOk, replyRoom, freshFrame, allPrinta
 ghost use Rattle.rules.specs.Refusal.{verdict, sizeTests, stateTests};
 ghost use Rattle.rules.specs.Operation.{hostRefusal};
 ghost use Rattle.det.specs.Lent.{lent};
-use command::code::is_printable;
+use command::character::is_printable;
 use rules::Frame;
 use rules::Refusal;
 use rules::Session;

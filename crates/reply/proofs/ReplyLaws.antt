@@ -24,7 +24,7 @@ use Rattle.decide.specs.Decision.{partsOf, Sendable}
 use Rattle.reply.specs.Written.{Buffer, buffer, wroteAll, Wrote}
 use Rattle.rules.specs.Number.{detOption, dataTransmit, fieldSeparator}
 use Rattle.reply.specs.Pieces.{doubledPieces, messagePieces, textPiece, fieldPieces, sayPieces}
-use Rattle.reply.specs.Reply.{Room, Emitted, Sayable}
+use Rattle.reply.specs.inner.Reply.{Room, Emitted, Sayable}
 use Rattle.reply.proofs.WriteLaws.{whole}
 
 abbrev pub joined : List (List ℕ) → List ℕ

@@ -7,15 +7,18 @@ use native.Mathlib.Numerals.{one-add}
 use native.Mathlib.Omega.{arith}
 use lib.ListN.{length, getD, drop-of-length-le}
 use Rattle.telnet.specs.declared.Phase.{Phase}
-use Rattle.telnet.specs.declared.Phase.the-variants.{Rest}
+use Rattle.telnet.specs.declared.Phase.the-variants.{Rest, Inside}
 use Rattle.telnet.specs.declared.Event.{Event}
 use Rattle.telnet.specs.declared.Event.the-variants.{Nothing, Data, Negotiation, Begin, Sub, End, EndBare, Lost}
+use Rattle.telnet.specs.declared.stretch.Stretch.{Stretch}
 use Rattle.telnet.specs.Reader.{readOf}
-use Rattle.telnet.specs.Stream.{told, eventsOf, dataEnd}
-use Rattle.telnet.proofs.RunLaws.{Onward, run, run-length, end-forth, byte-past}
+use Rattle.telnet.specs.Stream.{asList, eventsOf, part, stretchOf}
+use Rattle.telnet.proofs.Laws.{Reads}
+use Rattle.telnet.proofs.StretchLaws.{Onward, Lies, byte-onward, stretch-length, stretch-lies, data-stretch, payload-stretch, onward}
 use Rattle.tally.specs.declared.Tally.{Tally}
-use Rattle.tally.specs.declared.Place.{Place}
-use Rattle.tally.specs.Counts.{counts, none, tallied, plus, tallyOf, total, Counting, Further}
+use Rattle.tally.specs.declared.Progress.{Progress}
+use Rattle.tally.specs.Counts.{counts, none, tallied, plus, tallyOf}
+use Rattle.tally.specs.inner.Counting.{total, Counting, Further}
 
 -- ---- tallies add up as numbers do
 plus-assoc : (r s t : Tally) → plus (plus r s) t ≡ plus r (plus s t)
@@ -36,17 +39,17 @@ unfolding tallyOf
 tally-append [] ys = rw none-plus
 tally-append (x ∷ xs) ys = rw (tally-append xs ys, plus-assoc)
 
--- what a byte tells adds what its event adds, and one at most
-told-tally : (e : Event) → (tallyOf (told e) ≡ tallied e) × (total (tallied e) ≤ 1)
+-- an event as a list adds what the event adds, and one at most
+event-tally : (e : Event) → (tallyOf (asList e) ≡ tallied e) × (total (tallied e) ≤ 1)
 unfolding tallyOf tallied plus
-told-tally Nothing = (refl, omega arith)
-told-tally (Data b) = (refl, omega arith)
-told-tally (Negotiation v o) = (refl, omega arith)
-told-tally (Begin o) = (refl, omega arith)
-told-tally (Sub o b) = (refl, omega arith)
-told-tally (End o) = (refl, omega arith)
-told-tally EndBare = (refl, omega arith)
-told-tally Lost = (refl, omega arith)
+event-tally Nothing = (refl, omega arith)
+event-tally (Data b) = (refl, omega arith)
+event-tally (Negotiation v o) = (refl, omega arith)
+event-tally (Begin o) = (refl, omega arith)
+event-tally (Sub o b) = (refl, omega arith)
+event-tally (End o) = (refl, omega arith)
+event-tally EndBare = (refl, omega arith)
+event-tally Lost = (refl, omega arith)
 
 data-tally : (bs : List ℕ) → tallyOf (map Data bs) ≡ counts (length bs) 0 0 0
 unfolding tallyOf tallied plus
@@ -58,22 +61,10 @@ unfolding tallyOf tallied plus
 payload-tally o [] = refl
 payload-tally o (b ∷ bs) = rw (payload-tally o bs) (simp one-add)
 
--- a run adds its length, to one count
-module _ (t : Tally) (s : List ℕ) (i : ℕ) where
-  pub data-adds : plus t (tallyOf (map Data (run s i)))
-      ≡ counts (t .data_bytes + (dataEnd s i - i)) (t .negotiations) (t .payload) (t .ended)
-  unfolding plus
-  data-adds = rw (data-tally, run-length) (simp add-zero)
-
-  pub payload-adds : (o : ℕ) → plus t (tallyOf (map (Sub o) (run s i)))
-      ≡ counts (t .data_bytes) (t .negotiations) (t .payload + (dataEnd s i - i)) (t .ended)
-  unfolding plus
-  payload-adds o = rw (payload-tally o (run s i), run-length) (simp add-zero)
-
 -- ---- counting on
-module _ {input : List ℕ} {p : Place} (c : Counting input p) where
+module _ {input : List ℕ} {p : Progress} (c : Counting input p) where
   -- What is left tells these events first: with them it is counted further.
-  pub further : {q : Place} {here : Phase} {es : List Event} → p .phase ≡ here → Onward input here (p .at) es (q .phase) (q .at)
+  pub further : {q : Progress} {here : Phase} {es : List Event} → p .phase ≡ here → Onward input here (p .at) es (q .phase) (q .at)
       → plus (p .tally) (tallyOf es) ≡ q .tally → (total (q .tally) ≤ q .at) × (p .at < q .at) → Further input p q
   further h o t b = record {
     counting = record { whole = rw (← t, plus-assoc, ← tally-append, ← o .events, ← h) (c .whole); few = b .0 };
@@ -85,12 +76,45 @@ module _ {input : List ℕ} {p : Place} (c : Counting input p) where
       Further input p (record { phase = step .phase; at = p .at + 1; tally = plus (p .tally) (tallied (step .event)) })
   unfolding plus
   byte-further h =
-      let told = told-tally (readOf (p .phase) (getD input (p .at) 0) .event) in
-      further refl (byte-past input (p .phase) (p .at) h) (rw (told .0)) (omega (arith, c .few))
+      let adds = event-tally (readOf (p .phase) (getD input (p .at) 0) .event) in
+      further refl (byte-onward input (p .phase) (p .at) h) (rw (adds .0)) (omega (arith, c .few))
 
-  -- a run does not end before it starts
-  pub run-forth : p .at ≤ dataEnd input (p .at)
-  run-forth = end-forth input (p .at)
+  -- a stretch, which adds its length to one count
+  module _ (h : p .at < length input) {s : Stretch} (e : s ≡ stretchOf (p .phase) input (p .at)) where
+    pub stretch-lies-here : Lies input (p .at) s
+    stretch-lies-here = rw e (stretch-lies input (p .at) (p .phase) h)
+
+    -- its bytes
+    abbrev bytes : List ℕ
+    bytes = part (p .at) (s .end) input
+
+    long : length bytes ≡ s .end - p .at
+    long = rw e (stretch-length input (p .at) (p .phase))
+
+    counted-through : (es : List Event) (t : Tally) → Reads (p .phase) (part (p .at) (s .next) input) es (s .phase)
+        → plus (p .tally) (tallyOf es) ≡ t → total t ≤ s .next → Further input p (record { phase = s .phase; at = s .next; tally = t })
+    counted-through es t r adds few =
+        let l = stretch-lies-here in further refl (onward input (p .at) (omega (arith, l .further)) r) adds (few, l .further)
+
+    abbrev more-data : Tally
+    more-data = let t = p .tally in counts (t .data_bytes + (s .end - p .at)) (t .negotiations) (t .payload) (t .ended)
+
+    pub data-further : p .phase ≡ Rest → Further input p (record { phase = s .phase; at = s .next; tally = more-data })
+    unfolding plus
+    data-further q =
+        let l = stretch-lies-here in
+        counted-through (map Data bytes) more-data (rw (e, q) (data-stretch input (p .at))) (rw (data-tally, long) (simp add-zero))
+        (omega (arith, l .onward, l .forth, c .few))
+
+    abbrev more-payload : Tally
+    more-payload = let t = p .tally in counts (t .data_bytes) (t .negotiations) (t .payload + (s .end - p .at)) (t .ended)
+
+    pub payload-further : (o : ℕ) → p .phase ≡ Inside o → Further input p (record { phase = s .phase; at = s .next; tally = more-payload })
+    unfolding plus
+    payload-further o q =
+        let l = stretch-lies-here in
+        counted-through (map (Sub o) bytes) more-payload (rw (e, q) (payload-stretch input (p .at) o))
+        (rw (payload-tally o, long) (simp add-zero)) (omega (arith, l .onward, l .forth, c .few))
 
   -- at the end all is counted
   pub counting-done : length input ≤ p .at → p .tally ≡ tallyOf (eventsOf Rest input)

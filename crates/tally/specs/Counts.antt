@@ -1,14 +1,9 @@
 -- What a Telnet stream holds, counted: what each event that it tells adds.
-use Prim.Native.Nat.{ℕ, _+_, _≤_, _<_}
-use mathlib.Core.Path.{_≡_}
+use Prim.Native.Nat.{ℕ, _+_}
 use mathlib.Core.List.{List, [], _∷_}
-use lib.ListN.{drop}
-use Rattle.telnet.specs.declared.Phase.the-variants.{Rest}
 use Rattle.telnet.specs.declared.Event.{Event}
 use Rattle.telnet.specs.declared.Event.the-variants.{Nothing, Data, Negotiation, Begin, Sub, End, EndBare, Lost}
-use Rattle.telnet.specs.Stream.{eventsOf}
 use Rattle.tally.specs.declared.Tally.{Tally}
-use Rattle.tally.specs.declared.Place.{Place}
 
 -- a tally by its counts: data bytes, negotiations, bytes of payload, subnegotiations ended
 abbrev pub counts : ℕ → ℕ → ℕ → ℕ → Tally
@@ -37,18 +32,3 @@ plus s t =
 unfoldable pub tallyOf : List Event → Tally
 tallyOf [] = none
 tallyOf (e ∷ es) = plus (tallied e) (tallyOf es)
-
--- the four counts together
-abbrev pub total : Tally → ℕ
-total t = t .data_bytes + t .negotiations + t .payload + t .ended
-
--- The input is counted up to p: the counts so far and those of what is left are those of the whole, and they fit, since no more
--- is counted than bytes are read.
-pub record Counting (input : List ℕ) (p : Place) : Type 0 where
-  pub whole : plus (p .tally) (tallyOf (eventsOf (p .phase) (drop (p .at) input))) ≡ tallyOf (eventsOf Rest input)
-  pub few : total (p .tally) ≤ p .at
-
--- At q it is counted further than at p.
-pub record Further (input : List ℕ) (p q : Place) : Type 0 where
-  pub counting : Counting input q
-  pub further : p .at < q .at

@@ -1,15 +1,16 @@
 // Counts what a Telnet stream holds, from a reader at rest. It is the reader used by itself: no screen, no option's meaning.
-// Runs of data and of payload are taken at once, so that text costs little; the reader is asked about the other bytes.
+// Stretches of data and of payload are taken at once, so that text costs little; the reader is asked about the other bytes.
 ghost use mathlib.Core.Path.{_≡_};
 ghost use Prim.Native.Nat.{_+_, _<_, _^_};
 ghost use lib.ListN.{length};
 ghost use Rattle.telnet.specs.declared.Phase.the-variants.{Rest, Inside};
 ghost use Rattle.telnet.specs.Stream.{eventsOf};
-ghost use Rattle.tally.specs.Counts.{tallied, plus, tallyOf, total, Counting, Further};
+ghost use Rattle.tally.specs.Counts.{tallied, plus, tallyOf};
+ghost use Rattle.tally.specs.inner.Counting.{total, Counting, Further};
 use telnet::Event;
 use telnet::Phase;
 use telnet::read;
-use telnet::run::data_end;
+use telnet::stretch::stretch_at;
 
 // How many events of each kind.
 pub struct Tally {
@@ -20,7 +21,7 @@ pub struct Tally {
 }
 
 // A stream read up to `at`: where the reader stands, and the counts so far.
-struct Place {
+struct Progress {
     phase: Phase,
     at: usize,
     tally: Tally,
@@ -46,17 +47,17 @@ fn counted(tally: Tally, event: Event) -> Tally
 }
 
 // One byte, by the reader.
-fn one(place: Place, input: &[u8]) -> Place
-    requires { ⌜ Counting (now input) place × (place .at < length (now input)) ⌝ }
-    ensures { λ r. ⌜ Further (now (input .entry)) place r ⌝ }
+fn one(progress: Progress, input: &[u8]) -> Progress
+    requires { ⌜ Counting (now input) progress × (progress .at < length (now input)) ⌝ }
+    ensures { λ r. ⌜ Further (now (input .entry)) progress r ⌝ }
 {
-    let phase = place.phase;
-    let at = place.at;
+    let phase = progress.phase;
+    let at = progress.at;
     let step = read(phase, input[at]);
     let event = step.event;
     let next = step.phase;
-    let tally = counted(place.tally, event);
-    Place {
+    let tally = counted(progress.tally, event);
+    Progress {
         phase: next,
         at: at + 1,
         tally: tally,
@@ -64,65 +65,53 @@ fn one(place: Place, input: &[u8]) -> Place
 }
 
 // At rest: the data up to the next IAC, and that IAC.
-fn data_run(place: Place, input: &[u8]) -> Place
-    requires { ⌜ place .phase ≡ Rest ⌝ }
-    requires { ⌜ Counting (now input) place × (place .at < length (now input)) ⌝ }
-    ensures { λ r. ⌜ Further (now (input .entry)) place r ⌝ }
+fn data_stretch(progress: Progress, input: &[u8]) -> Progress
+    requires { ⌜ progress .phase ≡ Rest ⌝ }
+    requires { ⌜ Counting (now input) progress × (progress .at < length (now input)) ⌝ }
+    ensures { λ r. ⌜ Further (now (input .entry)) progress r ⌝ }
 {
-    let at = place.at;
-    let end = data_end(input, at);
-    let mut next = place.tally;
-    next.data_bytes += end - at;
-    if end < input.len() {
-        Place {
-            phase: Phase::Iac,
-            at: end + 1,
-            tally: next,
-        }
-    } else {
-        Place {
-            phase: Phase::Rest,
-            at: end,
-            tally: next,
-        }
+    let at = progress.at;
+    let here = progress.phase;
+    let stretch = stretch_at(here, input, at);
+    let mut tally = progress.tally;
+    tally.data_bytes += stretch.end - at;
+    let phase = stretch.phase;
+    Progress {
+        phase: phase,
+        at: stretch.next,
+        tally: tally,
     }
 }
 
 // In the subnegotiation of this option: its payload up to the next IAC, and that IAC.
-fn payload_run(option: u8, place: Place, input: &[u8]) -> Place
-    requires { ⌜ place .phase ≡ Inside option ⌝ }
-    requires { ⌜ Counting (now input) place × (place .at < length (now input)) ⌝ }
-    ensures { λ r. ⌜ Further (now (input .entry)) place r ⌝ }
+fn payload_stretch(option: u8, progress: Progress, input: &[u8]) -> Progress
+    requires { ⌜ progress .phase ≡ Inside option ⌝ }
+    requires { ⌜ Counting (now input) progress × (progress .at < length (now input)) ⌝ }
+    ensures { λ r. ⌜ Further (now (input .entry)) progress r ⌝ }
 {
-    let at = place.at;
-    let end = data_end(input, at);
-    let mut next = place.tally;
-    next.payload += end - at;
-    if end < input.len() {
-        Place {
-            phase: Phase::InsideIac(option),
-            at: end + 1,
-            tally: next,
-        }
-    } else {
-        Place {
-            phase: Phase::Inside(option),
-            at: end,
-            tally: next,
-        }
+    let at = progress.at;
+    let here = progress.phase;
+    let stretch = stretch_at(here, input, at);
+    let mut tally = progress.tally;
+    tally.payload += stretch.end - at;
+    let phase = stretch.phase;
+    Progress {
+        phase: phase,
+        at: stretch.next,
+        tally: tally,
     }
 }
 
-// A run where the reader stands in one, else a byte: the phase is looked at once for either.
-fn turn(place: Place, input: &[u8]) -> Place
-    requires { ⌜ Counting (now input) place × (place .at < length (now input)) ⌝ }
-    ensures { λ r. ⌜ Further (now (input .entry)) place r ⌝ }
+// A stretch where the reader stands in one, else a byte: the phase is looked at once for either.
+fn turn(progress: Progress, input: &[u8]) -> Progress
+    requires { ⌜ Counting (now input) progress × (progress .at < length (now input)) ⌝ }
+    ensures { λ r. ⌜ Further (now (input .entry)) progress r ⌝ }
 {
-    let phase = place.phase;
+    let phase = progress.phase;
     match phase {
-        Phase::Rest => data_run(place, input),
-        Phase::Inside(option) => payload_run(option, place, input),
-        _ => one(place, input),
+        Phase::Rest => data_stretch(progress, input),
+        Phase::Inside(option) => payload_stretch(option, progress, input),
+        _ => one(progress, input),
     }
 }
 
@@ -136,15 +125,15 @@ pub fn tally_of(input: &[u8]) -> Tally
         payload: 0,
         ended: 0,
     };
-    let mut place = Place {
+    let mut progress = Progress {
         phase: Phase::Rest,
         at: 0,
         tally: none,
     };
-    while place.at < input.len() {
-        place = turn(place, input);
+    while progress.at < input.len() {
+        progress = turn(progress, input);
     }
-    place.tally
+    progress.tally
 }
 
 // The same for C, each count through a pointer of its own:

@@ -18,7 +18,7 @@ use Rattle.telnet.specs.declared.Event.{Event}
 use Rattle.telnet.specs.declared.Event.the-variants.{Nothing, Data, Negotiation, Begin, Sub, End, EndBare, Lost}
 use Rattle.telnet.specs.declared.Step.{Step}
 use Rattle.telnet.specs.Reader.{iac, sb, se, tells, silent, afterIac, thrownAway, readOf, reader}
-use Rattle.telnet.specs.Stream.{phaseAfter, told, eventsOf}
+use Rattle.telnet.specs.Stream.{phaseAfter, asList, eventsOf}
 use Rattle.telnet.specs.Writer.{doubled, subnegotiation, negotiation}
 
 -- Where the reader stands after two lists, one after the other.
@@ -34,20 +34,20 @@ events-append p [] ys = refl
 events-append p (x ∷ xs) ys = rw (events-append (readOf p x .phase) xs ys, append-assoc)
 
 -- A byte tells at most one event, so a list tells no more events than it has bytes.
-told-few : (e : Event) → length (told e) ≤ 1
-told-few Nothing = omega arith
-told-few (Data b) = omega arith
-told-few (Negotiation v o) = omega arith
-told-few (Begin o) = omega arith
-told-few (Sub o b) = omega arith
-told-few (End o) = omega arith
-told-few EndBare = omega arith
-told-few Lost = omega arith
+as-list-few : (e : Event) → length (asList e) ≤ 1
+as-list-few Nothing = omega arith
+as-list-few (Data b) = omega arith
+as-list-few (Negotiation v o) = omega arith
+as-list-few (Begin o) = omega arith
+as-list-few (Sub o b) = omega arith
+as-list-few (End o) = omega arith
+as-list-few EndBare = omega arith
+as-list-few Lost = omega arith
 
 pub events-few : (p : Phase) (bs : List ℕ) → length (eventsOf p bs) ≤ length bs
 unfolding eventsOf
 events-few p [] = omega arith
-events-few p (b ∷ bs) = simp length-append (omega (arith, told-few (readOf p b .event), events-few (readOf p b .phase) bs))
+events-few p (b ∷ bs) = simp length-append (omega (arith, as-list-few (readOf p b .event), events-few (readOf p b .phase) bs))
 
 -- For a loop over a slice: the bytes from i on are the byte at i, then those from i + 1 on.
 module _ (p : Phase) (s : List ℕ) (i : ℕ) (within : i < length s) where
@@ -56,7 +56,7 @@ module _ (p : Phase) (s : List ℕ) (i : ℕ) (within : i < length s) where
   phase-at = rw (add-one, drop-cons s i 0)
 
   pub events-at : eventsOf p (drop i s)
-      ≡ told (readOf p (getD s i 0) .event) ++ eventsOf (readOf p (getD s i 0) .phase) (drop (i + 1) s)
+      ≡ asList (readOf p (getD s i 0) .event) ++ eventsOf (readOf p (getD s i 0) .phase) (drop (i + 1) s)
   unfolding eventsOf
   events-at = rw (add-one, drop-cons s i 0)
 
@@ -77,7 +77,7 @@ computed : {p : Phase} {bytes : List ℕ} → Reads p bytes (eventsOf p bytes) (
 computed = record { events = refl; phase = refl }
 
 -- one byte, by its step
-one : {p : Phase} {b : ℕ} (q : Phase) (e : Event) → readOf p b ≡ tells q e → Reads p (b ∷ []) (told e) q
+pub one : {p : Phase} {b : ℕ} (q : Phase) (e : Event) → readOf p b ≡ tells q e → Reads p (b ∷ []) (asList e) q
 unfolding phaseAfter eventsOf
 one q e step = record { events = rw (step, append-nil); phase = rw (step, phaseAfter) }
 
@@ -88,10 +88,10 @@ written b = if eqb b iac then iac ∷ iac ∷ [] else b ∷ []
 -- One byte as written, at rest, as an option or in a payload: wherever 255 leads to a phase i in which 255 is the byte itself.
 written-read : {p : Phase} (i : Phase) (q : ℕ → Phase) (e : ℕ → Event) →
     ((b : ℕ) → readOf p b ≡ (if eqb b iac then silent i else tells (q b) (e b))) → readOf i iac ≡ tells (q iac) (e iac) →
-    (b : ℕ) → Reads p (written b) (told (e b)) (q b)
+    (b : ℕ) → Reads p (written b) (asList (e b)) (q b)
 written-read {p} i q e plain escaped b = go (eqb b iac) refl
   where
-    go : (t : Bool) → eqb b iac ≡ t → Reads p (written b) (told (e b)) (q b)
+    go : (t : Bool) → eqb b iac ≡ t → Reads p (written b) (asList (e b)) (q b)
     go true h = rw (eqb-true b iac h) (joined (one i Nothing (plain iac)) (one (q iac) (e iac) escaped))
     go false h = rw h (one (q b) (e b) (plain b ∙ rw h))
 

@@ -1,12 +1,13 @@
 -- A list of bytes, read one after the other.
-use Prim.Native.Nat.{ℕ, suc, _+_}
+use Prim.Native.Nat.{ℕ, suc, _+_, _-_}
 use mathlib.Core.List.{List, [], _∷_, _++_}
-use lib.Dec.{eqb}
-use lib.ListN.{drop}
+use lib.Dec.{eqb, ltb}
+use lib.ListN.{length, take, drop}
 use Rattle.telnet.specs.If.{if_then_else_}
 use Rattle.telnet.specs.declared.Phase.{Phase}
 use Rattle.telnet.specs.declared.Event.{Event}
 use Rattle.telnet.specs.declared.Event.the-variants.{Nothing, Data, Negotiation, Begin, Sub, End, EndBare, Lost}
+use Rattle.telnet.specs.declared.stretch.Stretch.{Stretch}
 use Rattle.telnet.specs.Reader.{iac, readOf}
 
 -- where the reader stands after the bytes
@@ -15,20 +16,20 @@ phaseAfter p [] = p
 phaseAfter p (b ∷ bs) = phaseAfter ((readOf p b) .phase) bs
 
 -- an event as a list: `Nothing` is none
-abbrev pub told : Event → List Event
-told Nothing = []
-told (Data b) = Data b ∷ []
-told (Negotiation v o) = Negotiation v o ∷ []
-told (Begin o) = Begin o ∷ []
-told (Sub o b) = Sub o b ∷ []
-told (End o) = End o ∷ []
-told EndBare = EndBare ∷ []
-told Lost = Lost ∷ []
+abbrev pub asList : Event → List Event
+asList Nothing = []
+asList (Data b) = Data b ∷ []
+asList (Negotiation v o) = Negotiation v o ∷ []
+asList (Begin o) = Begin o ∷ []
+asList (Sub o b) = Sub o b ∷ []
+asList (End o) = End o ∷ []
+asList EndBare = EndBare ∷ []
+asList Lost = Lost ∷ []
 
 -- what the bytes tell, in order
 unfoldable pub eventsOf : Phase → List ℕ → List Event
 eventsOf p [] = []
-eventsOf p (b ∷ bs) = told ((readOf p b) .event) ++ eventsOf ((readOf p b) .phase) bs
+eventsOf p (b ∷ bs) = asList ((readOf p b) .event) ++ eventsOf ((readOf p b) .phase) bs
 
 -- how many bytes stand before the first IAC; all, where there is none
 unfoldable pub beforeIac : List ℕ → ℕ
@@ -38,3 +39,19 @@ beforeIac (b ∷ bs) = if eqb b iac then 0 else suc (beforeIac bs)
 -- where the first IAC from `from` on stands; none, the end; where `from` is past the end, `from`
 unfoldable pub dataEnd : List ℕ → ℕ → ℕ
 dataEnd bytes from = from + beforeIac (drop from bytes)
+
+-- the bytes from `from` up to `end`
+abbrev pub part : ℕ → ℕ → List ℕ → List ℕ
+part from end bytes = take (end - from) (drop from bytes)
+
+-- The stretch of bytes without IAC from `from` on, for a reader in the phase p. It ends at the first IAC or with the bytes. If an
+-- IAC stands there, reading goes on after it, in the phase that it leads to; else there, in the same phase.
+unfoldable pub stretchOf : Phase → List ℕ → ℕ → Stretch
+stretchOf p bytes from =
+    let end = dataEnd bytes from in
+    let more = ltb end (length bytes) in
+    record {
+      end = end;
+      next = if more then end + 1 else end;
+      phase = if more then (readOf p iac) .phase else p;
+    }

@@ -5,7 +5,7 @@ ghost use mathlib.Core.Path.{_≡_};
 ghost use Rattle.telnet.specs.Reader.{afterIac, thrownAway, opening, openingIac, inside, insideIac, readOf};
 
 pub mod code;
-pub mod run;
+pub mod stretch;
 
 use code::DO;
 use code::DONT;

@@ -3,7 +3,7 @@ use Rattle.rules.specs.declared.Refusal.{Refusal}
 use Rattle.rules.specs.declared.Refusal.the-variants.{Taken, Guarded, WrongClass}
 use Rattle.rules.specs.Session.{View}
 use Rattle.rules.specs.Effect.{Effect}
-use Rattle.command.specs.Frame.{Fits}
+use Rattle.command.specs.inner.Frame.{Fits}
 use Rattle.decide.specs.declared.text.Writer.{Writer}
 use Rattle.decide.specs.declared.text.Writer.the-variants.{Host, Operator}
 use Rattle.decide.specs.declared.text.Fate.{Fate}

@@ -7,9 +7,5 @@ pub format-attrs-spec : {M : Type 1} → statement M
 format-attrs-spec =
     tie.close
     (tie.spec
-    (λ c. search needs)
-    (λ c. search needs)
-    (λ c κs. search needs)
-    (λ c. search needs)
-    (λ c. search needs)
+    (λ c. search needs) (λ c. search needs) (λ c κs. search needs) (λ c. search needs) (λ c. search needs)
     (λ c. let p = c .before .before in rw (p .before .before .before .change .given .1) (p .format .ensures)))

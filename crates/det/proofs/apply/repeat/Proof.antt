@@ -13,9 +13,7 @@ repeat-spec =
     (λ count byte chars₀ attrs now₀ left₀ chars now left. (length chars ≡ length chars₀) × Repeating attrs byte count now₀ chars₀ left now chars)
     (λ count byte chars₀ attrs now₀ left₀ chars now left. left)
     (λ c. (refl, repeating-start))
-    (λ c κs. search needs)
-    (λ c. search needs)
-    (λ c. search needs)
+    (λ c κs. search needs) (λ c. search needs) (λ c. search needs)
     (λ c. let p = c .before .before in
     let l = p .before .before in
     (search needs, repeating-more (l .before .loop .inv .1) (l .loop-test .taken) (p .put-character .ensures)))

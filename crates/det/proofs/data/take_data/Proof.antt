@@ -11,10 +11,8 @@ unfolding hostData
 take-data-spec =
     tie.close
     (tie.spec
-    (λ c κs. search needs)
-    (λ c κs. search needs)
-    (λ c. search needs)
+    (λ c κs. search needs) (λ c κs. search needs) (λ c. search needs)
     (λ c. let p = c .before .before in
     let i = p .before .before in rw (← i .before .is-printable .ensures, i .if1 .taken) (p .put-character .ensures))
     (λ c κs. search needs)
-    (λ c. unprinted _ _ (sym (c .before .before .is-printable .ensures) ∙ c .before .if1 .left) (c .effect .ensures _)))
+    (λ c. unprinted _ _ (sym (c .before .before .is-printable .ensures) ∙ c .before .if1 .left) (c .control .ensures _)))

@@ -10,22 +10,13 @@ pub open-spec : {M : Type 1} → statement M
 open-spec =
     tie.close
     (tie.spec
-    (λ c κs. search needs)
-    (λ c. search needs)
-    (λ c κs. search needs)
-    (λ c κs. search needs)
-    (λ c. search needs)
-    (λ c. search needs)
+    (λ c κs. search needs) (λ c. search needs) (λ c κs. search needs) (λ c κs. search needs) (λ c. search needs) (λ c. search needs)
     (λ c. let b = c .before .before .before in
     open-refused _ _ _ (b .refuse-sizes .ensures) (not-taken (b .refuse-sizes .result) (c .before .before .match .keys2))
     (c .before .fresh-session .ensures) (c .refused .ensures))
     (λ c. let z = open-sizes _ _ _ (c .before .before .refuse-sizes .ensures) (c .enum-told .given .1) in omega arith)
     (λ c. let z = open-sizes _ _ _ (c .before .before .refuse-sizes .ensures) (c .enum-told .given .1) in omega arith)
-    (λ c κs. search needs)
-    (λ c κs. search needs)
-    (λ c κs. search needs)
-    (λ c. search needs)
-    (λ c. search needs)
+    (λ c κs. search needs) (λ c κs. search needs) (λ c κs. search needs) (λ c. search needs) (λ c. search needs)
     (λ c. let f = c .before .before in
     let s = f .before .before .before .before in
     let b = s .before .before .before in

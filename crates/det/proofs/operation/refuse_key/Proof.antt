@@ -9,11 +9,9 @@ pub refuse-key-spec : {M : Type 1} → statement M
 refuse-key-spec =
     tie.close
     (tie.spec
-    (λ c κs. search needs)
-    (λ c. search needs)
+    (λ c κs. search needs) (λ c. search needs)
     (λ c. let b = c .before in refused-first _ _ _ (b .refuse .ensures) (not-taken (b .refuse .result) (c .match .keys2)))
-    (λ c κs. search needs)
-    (λ c κs. search needs)
+    (λ c κs. search needs) (λ c κs. search needs)
     (λ c. let t = c .before .before in
     refused-last _ _ _ (t .before .before .refuse .ensures) (t .enum-told .given .1) (c .before .key-of .ensures)
     (c .refuse-pressed .ensures)))

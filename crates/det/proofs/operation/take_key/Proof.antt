@@ -8,14 +8,12 @@ pub take-key-spec : {M : Type 1} → statement M
 take-key-spec =
     tie.close
     (tie.spec
-    (λ c κs. search needs)
-    (λ c κs. search needs)
-    (λ c κs. search needs)
-    (λ c κs. search needs)
-    (λ c. search needs)
-    (λ c. search needs)
+    (λ c κs. search needs) (λ c κs. search needs) (λ c κs. search needs) (λ c κs. search needs) (λ c κs. search needs)
+    (λ c. search needs) (λ c. search needs)
     (λ c. let a = c .before .before .before in
     let w = a .before .before .before .before in
     let d = w .before .before .before in
     let k = d .before in
-    key-settled (k .before .before .before .before .pre) (k .key-of .ensures) (d .press .ensures) (w .write-reply .ensures) (a .change-chars .ensures)))
+    rw (c .with-frame .ensures)
+    (key-settled _ _ _ (k .before .before .before .before .pre) (k .key-of .ensures) (d .press .ensures) (w .write-reply .ensures)
+    (a .change-chars .ensures))))

@@ -16,12 +16,10 @@ all-printable-spec =
     (λ chars i₀ i. (i ≤ length chars) × (allPrintable chars ≡ allPrintable (drop i chars)))
     (λ chars i₀ i. length chars - i)
     (λ c. (search needs, refl))
-    (λ c. search needs)
-    (λ c κs. search needs)
+    (λ c. search needs) (λ c κs. search needs)
     (λ c. let l = c .before .before .before .before in
     rw (l .loop .inv .1, text-off (l .before .before .args .chars .now) (l .loop .i) (c .before .before .before .loop-test .taken) (failing (c .before .is-printable .ensures) (c .if1 .taken))))
-    (λ c. search needs)
-    (λ c. search needs)
+    (λ c. search needs) (λ c. search needs)
     (λ c. let l = c .before .before .before .before in
     (search needs, l .loop .inv .1 ∙ text-on (l .before .before .args .chars .now) (l .loop .i) (c .before .before .before .loop-test .taken) (passing (c .before .is-printable .ensures) (c .if1 .left))))
     (λ c. rw (c .before .loop .inv .1, drop-of-length-le _ (c .loop-test .left))))

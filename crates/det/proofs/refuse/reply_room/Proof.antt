@@ -10,8 +10,7 @@ pub reply-room-spec : {M : Type 1} → statement M
 reply-room-spec =
     tie.close
     (tie.spec
-    (λ c. search needs)
-    (λ c. search needs)
+    (λ c. search needs) (λ c. search needs)
     (λ c. omega (arith, byte-product {a = c .before .before .args .frame .height} {b = c .before .before .args .frame .width} (omega arith) (omega arith)))
     (λ c. omega (arith, byte-product {a = c .before .before .args .frame .height} {b = c .before .before .args .frame .width} (omega arith) (omega arith)))
     (λ c. omega (arith, byte-product {a = c .before .before .args .frame .height} {b = c .before .before .args .frame .width} (omega arith) (omega arith)))

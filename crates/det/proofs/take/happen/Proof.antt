@@ -1,8 +1,8 @@
--- `happen` meets its contract: one case for each event.
+-- `happen` meets its contract: data, a negotiation, an end, or an event on which nothing is done.
 use borrow.Author.Needs.{needs}
 use Rattle.rules.specs.Operation.{happening}
 use Rattle.decide.proofs.DecideLaws.{fits-rule}
-use Rattle.det.proofs.TakeLaws.{decided-sayable, decided-applies, nothing-applies, data-applies}
+use Rattle.det.proofs.TakeLaws.{decided-sayable, decided-applies, nothing-applies, idle, data-applies}
 use Rattle.det.proofs.take.happen.Statement.{statement}
 use Rattle.det.proofs.take.happen.Tie as tie
 
@@ -11,51 +11,28 @@ unfolding happening
 happen-spec =
     tie.close
     (tie.spec
-    (λ c. search needs)
-    (λ c κs. search needs)
-    (λ c. search needs)
-    (λ c κs. search needs)
-    (λ c κs. search needs)
-    (λ c. search needs)
-    (λ c κs. search needs)
+    (λ c. search needs) (λ c κs. search needs) (λ c. search needs) (λ c κs. search needs)
     (λ c κs. let d = c .before .before .before in
     let e = d .before .before in
     decided-sayable (e .before .before .before .before .before .pre) (d .negotiate .ensures _) (rw (e .event2 .given .1)))
-    (λ c. search needs)
-    (λ c κs. search needs)
-    (λ c. search needs)
-    (λ c κs. search needs)
-    (λ c. search needs)
-    (λ c κs. search needs)
+    (λ c. search needs) (λ c κs. search needs)
     (λ c κs. let d = c .before .before .before in
     let e = d .before .before .before in
     let a = e .before .before .before .before .before .pre in
     decided-sayable a (fits-rule _ (a .fits) (d .decide-end .ensures)) (rw (e .event3 .given .1)))
-    (λ c. search needs)
-    (λ c κs. search needs)
-    (λ c. search needs)
-    (λ c κs. search needs)
-    (λ c. nothing-applies (c .nothing .ensures) (rw (c .before .enum-told .given .1)))
-    (λ c. search needs)
-    (λ c. search needs)
-    (λ c. let d = c .before .before .before in
-    rw (d .before .before .before .before .event .given .1) (data-applies _ _ (d .take-data .ensures) (c .nothing2 .ensures)))
-    (λ c. search needs)
-    (λ c. search needs)
-    (λ c. search needs)
+    (λ c. search needs) (λ c. search needs)
+    (λ c. let d = c .before .before in
+    rw (d .before .before .before .before .event .given .1) (data-applies _ _ (d .take-data .ensures)))
+    (λ c. search needs) (λ c. search needs) (λ c. search needs)
     (λ c. let a = c .before .before .before .before .before .before in
     let d = a .before .before .before .before in
     let e = d .before .before in
-    decided-applies (e .before .before .before .before .before .pre) (d .negotiate .ensures _) (rw (e .event2 .given .1)) (a .apply .ensures))
-    (λ c. nothing-applies (c .nothing3 .ensures) (rw (c .before .enum-told2 .given .1)))
-    (λ c. nothing-applies (c .nothing4 .ensures) (rw (c .before .enum-told3 .given .1)))
-    (λ c. search needs)
-    (λ c. search needs)
-    (λ c. search needs)
+    decided-applies (e .before .before .before .before .before .pre) (d .negotiate .ensures _) (rw (e .event2 .given .1))
+    (a .apply .ensures))
+    (λ c. search needs) (λ c. search needs) (λ c. search needs)
     (λ c. let a = c .before .before .before .before .before .before in
     let d = a .before .before .before .before in
     let e = d .before .before .before in
     let b = e .before .before .before .before .before .pre in
     decided-applies b (fits-rule _ (b .fits) (d .decide-end .ensures)) (rw (e .event3 .given .1)) (a .apply2 .ensures))
-    (λ c. nothing-applies (c .nothing5 .ensures) (rw (c .before .enum-told4 .given .1)))
-    (λ c. nothing-applies (c .nothing6 .ensures) (rw (c .before .enum-told5 .given .1))))
+    (λ c. nothing-applies (idle _ _ (c .before .before .before .before .args .event) (c .match .keys4))))

@@ -1,4 +1,4 @@
--- `take_byte` meets its contract: the byte is read, and what it told is done.
+-- `take_byte` meets its contract: the byte is read, and what its event asks for is done.
 use native.Mathlib.Omega.{arith}
 use borrow.Author.Needs.{needs}
 use Rattle.det.proofs.TakeLaws.{byte-answerable, byte-state, byte-replies}
@@ -10,19 +10,16 @@ pub take-byte-spec : {M : Type 1} → statement M
 take-byte-spec =
     tie.close
     (tie.spec
-    (λ c. search needs)
+    (λ c. search needs) (λ c κs. search needs)
+    (λ c κs. let r = c .before .before .before in
+    byte-answerable _ _ _ (r .before .before .before .before .before .before .before .before .pre .0) _ (r .read .ensures))
     (λ c κs. search needs)
-    (λ c κs. let r = c .before .before .before in byte-answerable (r .before .before .before .before .before .before .before .pre .0) _ (r .read .ensures))
-    (λ c κs. search needs)
-    (λ c. let start = c .before .before .before .before .before .before .before .before .before .before .before .before .before .before .before .before .before .before .before in omega (arith, start .pre .1, start .good .1 .1 .0 .0))
-    (λ c. search needs)
-    (λ c. search needs)
-    (λ c. search needs)
+    (λ c. let r = c .before .before .before .before .before .before .before .before .before .before .before .before in
+    let start = r .before .before .before .before .before .before .before .before in
+    omega (arith, start .pre .1, start .good .1 .0 .0))
+    (λ c. search needs) (λ c. search needs) (λ c. search needs)
     (λ c. let h = c .before .before .before .before .before .before .before .before in
     let r = h .before .before .before .before in
-    let p = r .before .before .before .before .before .before .before .pre in
-    record {
-      taking = taking-byte (p .0) (p .1) (byte-state (p .0) _ (r .read .ensures) (h .happen .ensures) (c .held-after .ensures))
-          (byte-replies (p .0) _ (r .read .ensures) (h .happen .ensures));
-      further = omega arith;
-    }))
+    let p = r .before .before .before .before .before .before .before .before .pre in
+    let after = byte-state _ _ _ (p .0) _ (r .read .ensures) (h .happen .ensures) (c .held-after .ensures) in
+    (omega arith, taking-byte _ _ _ (p .0) (p .1) after (byte-replies _ _ _ (p .0) _ (r .read .ensures) (h .happen .ensures)))))

@@ -1,8 +1,7 @@
--- `take_text` meets its contract: a run of data, with the IAC after it or to the input's end.
+-- `take_text` meets its contract: a stretch of data, and the IAC after it.
 use native.Mathlib.Omega.{arith}
-use mathlib.Core.Path.{refl}
 use borrow.Author.Needs.{needs}
-use Rattle.det.proofs.QuietLaws.{run-data, run-data-iac}
+use Rattle.det.proofs.QuietLaws.{lies, text-turn}
 use Rattle.det.proofs.take.take_text.Statement.{statement}
 use Rattle.det.proofs.take.take_text.Tie as tie
 
@@ -11,23 +10,11 @@ take-text-spec =
     tie.close
     (tie.spec
     (λ c κs. search needs)
-    (λ c. search needs)
-    (λ c. search needs)
-    (λ c. let t = c .before .before .before .before .before .before in
-    let start = t .before .before .before .before .before in
-    let r = t .take-run .ensures in
-    let run = run-data _ _ (r .0) (omega (arith, start .pre)) (start .args .held) (r .1) in
-    record {
-      run = run-data-iac _ _ (r .0) (omega (arith, start .pre)) (start .args .held) (r .1) (c .before .if1 .taken);
-      further = omega (arith, run .onward);
-      same = refl;
-    })
-    (λ c. search needs)
-    (λ c. let t = c .before .before .before .before .before in
-    let start = t .before .before .before .before .before in
-    let r = t .take-run .ensures in
-    record {
-      run = run-data _ _ (r .0) (omega (arith, start .pre)) (start .args .held) (r .1);
-      further = omega (arith, c .if1 .left, start .pre);
-      same = refl;
-    }))
+    (λ c. lies (c .before .before .before .before .before .pre .1) _ (c .stretch-at .ensures) .onward)
+    (λ c. lies (c .before .before .before .before .before .pre .1) _ (c .stretch-at .ensures) .onward)
+    (λ c. let l = lies (c .before .before .before .before .before .pre .1) _ (c .stretch-at .ensures) in omega (arith, l .forth, l .within))
+    (λ c κs. search needs) (λ c. search needs)
+    (λ c. let t = c .before .before .before in
+    let s = t .before .before .before in
+    let start = s .before .before .before .before .before in
+    text-turn (start .pre .1) _ (s .stretch-at .ensures) _ (start .pre .0) (t .host-text .ensures)))

@@ -4,9 +4,9 @@ use Prim.Native.Nat.{_-_}
 use borrow.Author.Needs.{needs}
 use lib.ListN.{length}
 use Rattle.telnet.specs.Stream.{dataEnd}
-use Rattle.telnet.proofs.RunLaws.{end-hit, end-skip, end-past}
-use Rattle.telnet.proofs.run.data_end.Statement.{statement}
-use Rattle.telnet.proofs.run.data_end.Tie as tie
+use Rattle.telnet.proofs.StretchLaws.{end-hit, end-skip, end-past}
+use Rattle.telnet.proofs.stretch.data_end.Statement.{statement}
+use Rattle.telnet.proofs.stretch.data_end.Tie as tie
 
 pub data-end-spec : {M : Type 1} → statement M
 data-end-spec =
@@ -16,8 +16,9 @@ data-end-spec =
     (λ input from at₀ at. length input - at)
     (λ c. refl)
     (λ c. search needs)
-    (λ c. let l = c .before .before .before in sym (l .loop .inv ∙ end-hit (l .before .args .input .now) (l .loop .at) (c .before .before .loop-test .taken) (c .if1 .taken)))
-    (λ c. search needs)
-    (λ c. search needs)
-    (λ c. let l = c .before .before .before in l .loop .inv ∙ end-skip (l .before .args .input .now) (l .loop .at) (c .before .before .loop-test .taken) (c .if1 .left))
+    (λ c. let l = c .before .before .before in
+    sym (l .loop .inv ∙ end-hit (l .before .args .input .now) (l .loop .at) (c .before .before .loop-test .taken) (c .if1 .taken)))
+    (λ c. search needs) (λ c. search needs)
+    (λ c. let l = c .before .before .before in
+    l .loop .inv ∙ end-skip (l .before .args .input .now) (l .loop .at) (c .before .before .loop-test .taken) (c .if1 .left))
     (λ c. sym (c .before .loop .inv ∙ end-past _ (c .before .loop .at) (c .loop-test .left))))

@@ -1,0 +1,22 @@
+-- `host_text` meets its contract. In the loop, what is done so far is what the bytes so far do.
+use mathlib.Core.Path.{_≡_, refl}
+use Prim.Native.Nat.{_-_}
+use borrow.Author.Needs.{needs}
+use lib.ListN.{length}
+use Rattle.det.proofs.LoopLaws.{Texted, texted-none, texted-more, texted-all}
+use Rattle.det.proofs.data.host_text.Statement.{statement}
+use Rattle.det.proofs.data.host_text.Tie as tie
+
+pub host-text-spec : {M : Type 1} → statement M
+host-text-spec =
+    tie.close
+    (tie.spec
+    (λ bytes chars₀ attrs now₀ at₀ chars now at. Texted attrs bytes now₀ chars₀ at now chars × (length chars ≡ length chars₀))
+    (λ bytes chars₀ attrs now₀ at₀ chars now at. length bytes - at)
+    (λ c. (texted-none _ (c .before .before .before .args .bytes .now) _ _, refl))
+    (λ c. search needs) (λ c κs. search needs) (λ c. search needs) (λ c. search needs)
+    (λ c. let d = c .before .before in
+    let l = d .before .before .before in
+    (texted-more _ _ _ (l .before .loop .inv .0) (l .loop-test .taken) (d .take-data .ensures), search needs))
+    (λ c. search needs)
+    (λ c. texted-all _ _ _ (c .before .loop .inv .0) (c .loop-test .left)))

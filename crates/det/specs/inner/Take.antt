@@ -1,0 +1,60 @@
+-- Host bytes, and one key: what is asked for them to be taken, what some bytes do, and what a call comes to.
+use mathlib.Core.Path.{_≡_}
+use mathlib.Core.List.{List, [], _∷_}
+use Prim.Native.Nat.{ℕ, _+_, _-_, _≤_, _<_}
+use lib.ListN.{length, drop}
+use Rattle.telnet.specs.Stream.{part}
+use Rattle.rules.specs.declared.Held.{Held}
+use Rattle.rules.specs.declared.Answer.{Answer}
+use Rattle.rules.specs.declared.Session.{Session}
+use Rattle.rules.specs.declared.Refusal.{Refusal}
+use Rattle.rules.specs.declared.Refusal.the-variants.{Taken}
+use Rattle.rules.specs.Session.{Screen, State, state}
+use Rattle.rules.specs.Telnet.{holding}
+use Rattle.rules.specs.Operation.{Outcome, running, answering, takenOf, hostRefusal, hostRan, keyRan}
+use Rattle.reply.specs.inner.Reply.{Emitted}
+use Rattle.det.specs.declared.take.Turn.{Turn}
+
+-- ---- what is asked
+
+-- host bytes would be taken with what is left of the reply buffer from `at` on
+abbrev pub Accepts : State → List ℕ → ℕ → Type 0
+Accepts s reply at = hostRefusal s (drop at reply) ≡ Taken
+
+-- ---- some bytes of the input
+
+-- a subnegotiation's bytes, held one after the other
+unfoldable pub holdingAll : Held → List ℕ → Held
+holdingAll h [] = h
+holdingAll h (b ∷ bs) = holdingAll (holding h b) bs
+
+-- Those from `from` to `end` are taken, and lead from s to s′; their replies are written from `at` on. Of the rest as many are
+-- taken as the rules say.
+pub record Taking (s : State) (input : List ℕ) (from : ℕ) (reply : List ℕ) (at : ℕ)
+    (s′ : State) (end : ℕ) (reply′ : List ℕ) (at′ : ℕ) : Type 0 where
+  pub onward : from ≤ end
+  pub within : end ≤ length input
+  pub room : at′ ≤ length reply
+  pub state : s′ ≡ (running s (part from end input)) .state
+  pub replies : Emitted reply at ((running s (part from end input)) .replies) reply′ at′
+  pub count : takenOf s (length reply - at) (drop from input) ≡ (end - from) + takenOf s′ (length reply - at′) (drop end input)
+
+-- a turn that takes some bytes, which draw no reply
+pub record QuietTurn (s : State) (input : List ℕ) (from at : ℕ) (t : Turn) (b : Screen) : Type 0 where
+  pub further : from < t .end
+  pub within : t .end ≤ length input
+  pub ran : running s (part from (t .end) input) ≡ record { state = state (t .session) b; replies = []; executed = [] }
+  pub same : t .written ≡ at
+
+-- ---- what a call comes to
+
+-- the answer of a call that is refused
+abbrev pub refusedAnswer : Session → Refusal → Answer
+refusedAnswer s r = record { session = s; refusal = r; taken = 0; written = 0 }
+
+-- host bytes, and a key, that are not refused
+abbrev pub hostTaken : State → List ℕ → List ℕ → Outcome
+hostTaken s reply input = answering (takenOf s (length reply) input) (hostRan s reply input) reply
+
+abbrev pub keyTaken : State → List ℕ → ℕ → Outcome
+keyTaken s reply k = answering 1 (keyRan s k) reply

@@ -68,7 +68,7 @@ fn open(
 }
 
 // Before the first order: as after an `open` that is refused, with empty buffers.
-pub fn fresh(chars: &mut [u8], attrs: &mut [u8]) -> Desk {
+pub(crate) fn fresh(chars: &mut [u8], attrs: &mut [u8]) -> Desk {
     open(0, 0, chars, 0, attrs, 0)
 }
 
@@ -252,7 +252,7 @@ fn set_suppressed(desk: Desk, on: bool) -> Desk {
 }
 
 // Does what the order says.
-pub fn obey(
+pub(crate) fn obey(
     desk: Desk,
     order: Order,
     bytes: &[u8],

@@ -23,7 +23,7 @@ fn bad(source: Source) -> Field
 }
 
 // Puts a word's letters at the start of `letters`.
-pub fn word(block: &mut [u8], source: Source, letters: &mut [u8]) -> Field {
+pub(crate) fn word(block: &mut [u8], source: Source, letters: &mut [u8]) -> Field {
     let mut source = source;
     let mut length = 0;
     while length <= letters.len() {
@@ -73,7 +73,7 @@ fn within(source: Source, digits: u64, value: usize, limit: usize) -> Field
 
 // A number of at most `limit`, which is below a million. It may have any number of zeros in front: nothing says that
 // they end, so its digits count up to a number that no run reaches.
-pub fn number(block: &mut [u8], source: Source, limit: usize) -> Field
+pub(crate) fn number(block: &mut [u8], source: Source, limit: usize) -> Field
     ensures { λ r. ⌜ r .value ≤ limit ⌝ }
 {
     let mut source = source;
@@ -136,7 +136,7 @@ fn complete(out: &mut [u8], digits: usize, left: u8, right: u8) {
 }
 
 // Puts a field's bytes at the start of `out`: at most `limit`, and no more than it holds.
-pub fn bytes(block: &mut [u8], source: Source, out: &mut [u8], limit: usize) -> Field {
+pub(crate) fn bytes(block: &mut [u8], source: Source, out: &mut [u8], limit: usize) -> Field {
     let most = 2 * least(limit, out.len());
     let mut source = source;
     let mut digits = 0;

@@ -1,7 +1,7 @@
 // Hexadecimal digits, in lower case.
 
 // What a byte is as a digit: 16 where it is none.
-pub fn value(byte: u8) -> u8 {
+pub(crate) fn value(byte: u8) -> u8 {
     match byte {
         b'0'..=b'9' => byte - b'0',
         b'a'..=b'f' => byte - b'a' + 10,
@@ -18,15 +18,15 @@ fn digit(n: u8) -> u8 {
     }
 }
 
-pub fn high(byte: u8) -> u8 {
+pub(crate) fn high(byte: u8) -> u8 {
     digit(byte / 16)
 }
 
-pub fn low(byte: u8) -> u8 {
+pub(crate) fn low(byte: u8) -> u8 {
     digit(byte % 16)
 }
 
 // The byte of two digits' values.
-pub fn joined(left: u8, right: u8) -> u8 {
+pub(crate) fn joined(left: u8, right: u8) -> u8 {
     left % 16 * 16 + right % 16
 }

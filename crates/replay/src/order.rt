@@ -225,7 +225,7 @@ fn wordless(source: Source) -> Parsed {
 }
 
 // Reads a line. The bytes of an order that has some go to the start of `bytes`.
-pub fn read(block: &mut [u8], source: Source, bytes: &mut [u8]) -> Parsed {
+pub(crate) fn read(block: &mut [u8], source: Source, bytes: &mut [u8]) -> Parsed {
     let mut letters = [0u8; 8];
     let field = field::word(block, source::begin(source), &mut letters);
     let after = field.source;

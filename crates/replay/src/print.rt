@@ -167,7 +167,7 @@ fn state(out: &mut [u8], sink: Sink, desk: Desk) -> Sink {
 }
 
 // What the order of the line of this number, once obeyed, is answered with.
-pub fn line(
+pub(crate) fn line(
     out: &mut [u8],
     sink: Sink,
     order: Order,

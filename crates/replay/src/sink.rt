@@ -9,7 +9,7 @@ pub struct Sink {
     pub failed: bool,
 }
 
-pub fn empty() -> Sink {
+pub(crate) fn empty() -> Sink {
     Sink {
         length: 0,
         failed: false,
@@ -17,7 +17,7 @@ pub fn empty() -> Sink {
 }
 
 // Writes what the block holds.
-pub fn flush(out: &[u8], sink: Sink) -> Sink {
+pub(crate) fn flush(out: &[u8], sink: Sink) -> Sink {
     let length = sink.length;
     if sink.failed {
         return sink;
@@ -47,7 +47,7 @@ fn store(out: &mut [u8], sink: Sink, byte: u8) -> Sink {
 }
 
 // One byte more. A block that is full is written first.
-pub fn put(out: &mut [u8], sink: Sink, byte: u8) -> Sink {
+pub(crate) fn put(out: &mut [u8], sink: Sink, byte: u8) -> Sink {
     if sink.length < out.len() {
         return store(out, sink, byte);
     }
@@ -55,7 +55,7 @@ pub fn put(out: &mut [u8], sink: Sink, byte: u8) -> Sink {
     store(out, flushed, byte)
 }
 
-pub fn text(out: &mut [u8], sink: Sink, bytes: &[u8]) -> Sink {
+pub(crate) fn text(out: &mut [u8], sink: Sink, bytes: &[u8]) -> Sink {
     let mut sink = sink;
     let mut i = 0;
     while i < bytes.len() {
@@ -67,14 +67,14 @@ pub fn text(out: &mut [u8], sink: Sink, bytes: &[u8]) -> Sink {
 }
 
 // A number, in decimal.
-pub fn number(out: &mut [u8], sink: Sink, n: u64) -> Sink {
+pub(crate) fn number(out: &mut [u8], sink: Sink, n: u64) -> Sink {
     let mut digits = [0u8; 20];
     let count = io::decimal(n, &mut digits);
     text(out, sink, &digits[0..count])
 }
 
 // Bytes in hexadecimal, or a dash where there are none.
-pub fn bytes(out: &mut [u8], sink: Sink, bytes: &[u8]) -> Sink {
+pub(crate) fn bytes(out: &mut [u8], sink: Sink, bytes: &[u8]) -> Sink {
     if bytes.len() == 0 {
         return put(out, sink, b'-');
     }

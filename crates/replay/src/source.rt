@@ -35,7 +35,7 @@ pub struct Next {
 }
 
 // Before the first line.
-pub fn start() -> Source {
+pub(crate) fn start() -> Source {
     Source {
         at: 0,
         end: 0,
@@ -44,7 +44,7 @@ pub fn start() -> Source {
 }
 
 // Where the next line begins, unless the input has ended.
-pub fn begin(source: Source) -> Source {
+pub(crate) fn begin(source: Source) -> Source {
     let stand = source.stand;
     let Stand::LineEnd = stand else {
         return source;
@@ -57,7 +57,7 @@ pub fn begin(source: Source) -> Source {
 }
 
 // The line is bad, unless it is a read that failed.
-pub fn spoil(source: Source) -> Source {
+pub(crate) fn spoil(source: Source) -> Source {
     let stand = source.stand;
     if let Stand::Failed = stand {
         return source;
@@ -70,7 +70,7 @@ pub fn spoil(source: Source) -> Source {
 }
 
 // The next byte of the field, or its end: a space, the line's end, or whatever keeps the line from going on.
-pub fn next_byte(block: &mut [u8], source: Source) -> Next {
+pub(crate) fn next_byte(block: &mut [u8], source: Source) -> Next {
     let ready = fill(block, source);
     let stand = ready.stand;
     let Stand::Line = stand else {

@@ -1,3 +1,4 @@
+pub mod Passing
 pub mod Worked
 pub mod Shut
 pub mod All

@@ -18,7 +18,7 @@ use Rattle.rules.specs.Effect.{Executed}
 use Rattle.rules.specs.Command.{codeIn, reachesPast}
 use Rattle.rules.specs.Call.{Call, host, key, Answered, answersOf, stateAfter, executedOf}
 use Rattle.rules.specs.cases.Computing.{computing}
-use Rattle.rules.specs.cases.Vocabulary.{characters, starting}
+use Rattle.rules.specs.cases.Vocabulary.{characters, same, starting}
 use Rattle.rules.specs.Noninterference.{noneReaches, Alike, Untold}
 -- the worked cases are checked first, so that a wrong rule is refused there
 use Rattle.rules.proofs.Shut.{shut-holds}
@@ -163,12 +163,6 @@ pub record Needed (r : Reach) : Type 0 where
   pub premised : Premised (at (r .x) (r .y)) attrs four five
   pub only : past (executedOf (first r) (r .calls)) ≡ r .code ∷ []
   pub broken : Untold (at (r .x) (r .y)) attrs four five (r .calls) → ⊥
-
-unfoldable same : List ℕ → List ℕ → Bool
-same [] [] = true
-same [] (y ∷ ys) = false
-same (x ∷ xs) [] = false
-same (x ∷ xs) (y ∷ ys) = eqb x y && same xs ys
 
 same-refl : (xs : List ℕ) → same xs xs ≡ true
 unfolding same

@@ -15,7 +15,7 @@ use Rattle.screen.specs.Words.{if_then_else_}
 use Rattle.screen.specs.Cells.{place}
 use Rattle.screen.proofs.WordLaws.{not-both, true-or-false, and-left, and-right}
 use Rattle.rules.specs.Session.{session, screen, state}
-use Rattle.rules.specs.cases.Vocabulary.{Seen, Case, bit, phaseNumbers, numbers, same, sameSeen, sameAll, Fails, Passes, AllPass, observed, expected}
+use Rattle.rules.specs.cases.Vocabulary.{Seen, Case, bit, phaseNumbers, numbers, same, sameSeen, sameAll, Fails, Passes, observed, expected}
 
 -- ---- what is seen, from its numbers and lists
 
@@ -107,15 +107,15 @@ all-equal (x ∷ xs) (y ∷ ys) e = ap₂ _∷_ (seen-equal x y (and-left _ _ e)
 fails-not : {A : Type 0} {title : String} → Fails title → A
 fails-not = elim [ ]
 
-case-equal : (c : Case) → Passes c → c .observed ≡ c .expected
+case-equal : (c : Case) → (if sameAll (c .observed) (c .expected) then Unit {0} else Fails (c .title)) → c .observed ≡ c .expected
 case-equal c p =
     true-or-false (sameAll (c .observed) (c .expected)) (λ e. all-equal _ _ e)
     (λ e. let q : Fails (c .title) = rw e at p in fails-not q)
 
-pub each-equal : (cs : List Case) → AllPass cs → observed cs ≡ expected cs
+pub each-equal : (cs : List Case) → Passes cs → observed cs ≡ expected cs
 each-equal [] p = refl
 each-equal (c ∷ cs) p = ap₂ _∷_ (case-equal c (p .0)) (each-equal cs (p .1))
 
-pub all-pass : (cs ds : List Case) → AllPass cs → AllPass ds → AllPass (cs ++ ds)
+pub all-pass : (cs ds : List Case) → Passes cs → Passes ds → Passes (cs ++ ds)
 all-pass [] ds p q = q
 all-pass (c ∷ cs) ds p q = (p .0, all-pass cs ds (p .1) q)

@@ -14,7 +14,7 @@ use Rattle.rules.specs.Refusal.{numberOf}
 use Rattle.rules.specs.Operation.{blank, opened}
 use Rattle.rules.specs.Call.{host, key}
 use Rattle.rules.specs.cases.Computing.{computing}
-use Rattle.rules.specs.cases.Vocabulary.{Case, Trial, AllPass, characters, case, opening, starting, at, modes, reading, showing, attributed, unchanged, see, hostTrial, keyTrial, refusedTrial, observed, expected, seeing}
+use Rattle.rules.specs.cases.Vocabulary.{Case, Trial, Passes, characters, case, opening, starting, at, modes, reading, showing, attributed, unchanged, see, hostTrial, keyTrial, refusedTrial, observed, expected, seeing}
 use Rattle.rules.proofs.Passing.{each-equal, all-pass}
 -- the worked forms are checked first
 use Rattle.rules.proofs.Worked.{worked}
@@ -143,7 +143,7 @@ denied title s rows = case title s (map (λ r. refuses (r .0) (r .1) (r .2)) row
 unfoldable pub classes : List Case
 classes =
     case "class 2 takes letters and space" (cell 16 false) (written "AZaz " ++ refused "@[`{0!")
-    ∷ case "class 3 takes digits, space, plus, minus, point" (cell 24 false) (written "09+-. " ++ refused "/:,*A!")
+    ∷ case "class 3 takes digits, space and three signs" (cell 24 false) (written "09+-. " ++ refused "/:,*A!")
     ∷ case "bits 4 and 3 alone are the class" (cell 255 false) (written "5" ++ refused "A")
     ∷ case "no class takes every character" (cell 0 false) (written "~!A0 ")
     ∷ case "class 3 is not tested while suppressed" (cell 24 true) (written "A@")
@@ -152,7 +152,7 @@ classes =
     ∷ case "class is not tested for the host" (cell 24 false) (hostTrial 9 (characters "A") 1 (showing (characters "A")) [] ∷ refused "B")
     ∷ []
 
-pub classes-pass : AllPass classes
+pub classes-pass : Passes classes
 unfolding computing seeing classes
 classes-pass = (tt, (tt, (tt, (tt, (tt, (tt, (tt, (tt, tt))))))))
 
@@ -160,13 +160,13 @@ classes-pass = (tt, (tt, (tt, (tt, (tt, (tt, (tt, (tt, tt))))))))
 
 unfoldable pub fields : List Case
 fields =
-    form "23 sends the whole field and 26 its rest, over the line end" 3 0 (sends 23 3 0 (from 2 0 "cde") ∷ sends 26 3 0 (from 3 0 "de") ∷ [])
+    form "23 and 26 send a field over the line end" 3 0 (sends 23 3 0 (from 2 0 "cde") ∷ sends 26 3 0 (from 3 0 "de") ∷ [])
     ∷ form "23 and 26 from the field's second line" 0 1 (sends 23 0 1 (from 2 0 "cde") ∷ sends 26 0 1 (from 0 1 "e") ∷ [])
-    ∷ form "typing goes to the next open cell, key 8 to the previous; none, it stays" 3 0
+    ∷ form "typing goes on, key 8 back; none, it stays" 3 0
     (types "x" 0 1 "ABcxeFGH" ∷ types "y" 0 1 "ABcxyFGH" ∷ press 8 3 0 [] ∷ press 8 2 0 [] ∷ press 8 2 0 [] ∷ [])
     ∷ form "key 8 goes over guarded cells" 3 1 (press 8 0 1 [] ∷ [])
-    ∷ form "host text goes to the next cell, and on a guarded one is dropped" 3 0 (reads (characters "xyz") (see 1 1 "ABcxyFGH") [] ∷ [])
-    ∷ form "the edit span ends with the line, though the field goes on" 2 0
+    ∷ form "host text on to a guarded cell is dropped" 3 0 (reads (characters "xyz") (see 1 1 "ABcxyFGH") [] ∷ [])
+    ∷ form "the edit span ends with the line" 2 0
     (does 16 2 0 "ABd eFGH" ∷ does 15 2 0 "AB deFGH" ∷ deletes 2 0 "ABd eFGH" ∷ [])
     ∷ form "15 in an edit span of one cell" 0 1 (does 15 0 1 "ABcd FGH" ∷ [])
     ∷ form "16 in an edit span of one cell" 0 1 (does 16 0 1 "ABcd FGH" ∷ [])
@@ -175,13 +175,13 @@ fields =
     ∷ sides "23 and 26 send one of two fields side by side" 1 0 (sends 23 1 0 (from 0 0 "ab") ∷ sends 26 1 0 (from 1 0 "b") ∷ [])
     ∷ sides "23 and 31 at the second of them" 3 0 (sends 23 3 0 (from 2 0 "cde") ∷ does 31 3 0 "ab   F1G" ∷ [])
     ∷ sides "the edit span ends with its field" 0 0 (does 16 0 0 "b cdeF1G" ∷ [])
-    ∷ sides "key 9 goes to the next field, and from the last to the first" 0 0 (press 9 2 0 [] ∷ press 9 2 1 [] ∷ press 9 0 0 [] ∷ [])
-    ∷ sides "19 goes to the last start before the cursor; none, (0,0)" 3 1 (goes 19 2 1 ∷ goes 19 2 0 ∷ goes 19 0 0 ∷ goes 19 0 0 ∷ [])
-    ∷ sides "typing goes on into the next field, whose class counts" 1 0 (types "x" 2 0 "axcdeF1G" ∷ refuses 7 58 (char "1") ∷ [])
+    ∷ sides "key 9 to the next field, else the first" 0 0 (press 9 2 0 [] ∷ press 9 2 1 [] ∷ press 9 0 0 [] ∷ [])
+    ∷ sides "19 to the last start before the cursor" 3 1 (goes 19 2 1 ∷ goes 19 2 0 ∷ goes 19 0 0 ∷ goes 19 0 0 ∷ [])
+    ∷ sides "typing goes on to a cell of another class" 1 0 (types "x" 2 0 "axcdeF1G" ∷ refuses 7 58 (char "1") ∷ [])
     ∷ sides "typing goes on over a guarded cell" 0 1 (types "x" 2 1 "abcdxF1G" ∷ [])
     ∷ []
 
-pub fields-pass : AllPass fields
+pub fields-pass : Passes fields
 unfolding computing seeing fields
 fields-pass = (tt, (tt, (tt, (tt, (tt, (tt, (tt, (tt, (tt, (tt, (tt, (tt, (tt, (tt, (tt, (tt, tt))))))))))))))))
 
@@ -190,33 +190,33 @@ fields-pass = (tt, (tt, (tt, (tt, (tt, (tt, (tt, (tt, (tt, (tt, (tt, (tt, (tt, (
 unfoldable pub guards : List Case
 guards =
     form "21 and key 13 send the unprotected fields" 3 1 (sends 21 2 0 (from 2 0 "cde") ∷ press 13 2 0 (from 2 0 "cde") ∷ [])
-    ∷ lifted "suppression does not change what 21 and key 13 send" 3 1 (sends 21 2 0 (from 2 0 "cde") ∷ press 13 2 0 (from 2 0 "cde") ∷ [])
+    ∷ lifted "suppression does not change what 21 sends" 3 1 (sends 21 2 0 (from 2 0 "cde") ∷ press 13 2 0 (from 2 0 "cde") ∷ [])
     ∷ closed "21 without fields sends its preface" 3 1 (sends 21 0 0 (from 0 0 "") ∷ [])
     ∷ closed "keys 9, 8 and 13 without a field" 3 1 (press 9 3 1 [] ∷ press 8 3 1 [] ∷ press 13 0 0 (from 0 0 "") ∷ [])
     ∷ closed "12 without an unprotected cell" 3 1 (goes 12 0 0 ∷ [])
     ∷ closed "19 without a field" 3 1 (goes 19 0 0 ∷ [])
     ∷ closed "35 without a field" 3 1 (goes 35 0 0 ∷ [])
-    ∷ form "23 and 26 on a guarded cell send the cursor alone" 2 1 (sends 23 2 1 (from 2 1 "") ∷ sends 26 2 1 (from 2 1 "") ∷ [])
-    ∷ lifted "23 and 26 send a protected field while suppressed" 2 1 (sends 23 2 1 (from 1 1 "FGH") ∷ sends 26 2 1 (from 2 1 "GH") ∷ [])
+    ∷ form "23 and 26 on a guarded cell" 2 1 (sends 23 2 1 (from 2 1 "") ∷ sends 26 2 1 (from 2 1 "") ∷ [])
+    ∷ lifted "23 and 26 on a protected cell, suppressed" 2 1 (sends 23 2 1 (from 1 1 "FGH") ∷ sends 26 2 1 (from 2 1 "GH") ∷ [])
     ∷ form "15 and 16 do nothing on a guarded cell" 1 0 (goes 15 1 0 ∷ goes 16 1 0 ∷ [])
     ∷ lifted "15 shifts to the line's end while suppressed" 1 0 (does 15 1 0 "A BceFGH" ∷ [])
     ∷ lifted "16 shifts to the line's end while suppressed" 1 0 (does 16 1 0 "Acd eFGH" ∷ [])
     ∷ lifted "15 in the second line while suppressed" 0 1 (does 15 0 1 "ABcd eFG" ∷ [])
     ∷ lifted "16 in the second line while suppressed" 0 1 (does 16 0 1 "ABcdFGH " ∷ [])
     ∷ lifted "key 127 is as 16 while suppressed" 1 1 (deletes 1 1 "ABcdeGH " ∷ [])
-    ∷ lifted "typing and key 8 go from cell to cell while suppressed, key 9 to the unprotected field" 0 0
+    ∷ lifted "keys while suppressed" 0 0
     (types "x" 1 0 "xBcdeFGH" ∷ press 8 0 0 [] ∷ press 8 0 0 [] ∷ press 9 2 0 [] ∷ [])
     ∷ lifted "typing stays at the screen's end" 3 1 (types "x" 3 1 "ABcdeFGx" ∷ [])
     -- suppressed twice and ended twice, 23 after each; the two questions; other values
-    ∷ form "38 suppresses with 253, ends with 254, answers if that changed; 251; 252; else ERROR 11" 0 0
+    ∷ form "38 with 253, 254, 251, 252 and others" 0 0
     (suppresses 253 true (det (38 ∷ 251 ∷ [])) ∷ suppresses 253 true [] ∷ sends 23 0 0 (from 0 0 "AB")
     ∷ suppresses 254 false (det (38 ∷ 252 ∷ [])) ∷ suppresses 254 false [] ∷ sends 23 0 0 (from 0 0 "")
     ∷ suppresses 251 false (det (38 ∷ 254 ∷ [])) ∷ suppresses 252 false []
     ∷ errs 11 38 (250 ∷ []) ∷ hears (det (38 ∷ 255 ∷ 255 ∷ [])) (error 38 11) ∷ [])
-    ∷ lifted "38 with 251 and 252 leaves protection suppressed" 0 0 (suppresses 251 true (det (38 ∷ 254 ∷ [])) ∷ suppresses 252 true [] ∷ [])
+    ∷ lifted "38 with 251 and 252 while suppressed" 0 0 (suppresses 251 true (det (38 ∷ 254 ∷ [])) ∷ suppresses 252 true [] ∷ [])
     ∷ []
 
-pub guards-pass : AllPass guards
+pub guards-pass : Passes guards
 unfolding computing seeing guards
 guards-pass = (tt, (tt, (tt, (tt, (tt, (tt, (tt, (tt, (tt, (tt, (tt, (tt, (tt, (tt, (tt, (tt, (tt, (tt, (tt, tt)))))))))))))))))))
 
@@ -226,7 +226,7 @@ unfoldable pub moves : List Case
 moves =
     form "12 goes to the first unprotected cell" 3 1 (goes 12 2 0 ∷ [])
     ∷ lifted "12 goes to (0,0) while suppressed" 3 1 (goes 12 0 0 ∷ [])
-    ∷ form "19 goes to the last start of an unprotected field" 3 1 (goes 19 2 0 ∷ [])
+    ∷ form "19 passes over protected fields" 3 1 (goes 19 2 0 ∷ [])
     ∷ lifted "19 goes to (0,0) while suppressed" 3 1 (goes 19 0 0 ∷ [])
     ∷ form "20 sends the screen, cursor (0,0)" 3 1 (sends 20 0 0 (from 0 0 "ABcdeFGH") ∷ [])
     ∷ form "22 sends the line, cursor to the next line" 1 0 (sends 22 0 1 (from 0 0 "ABcd") ∷ [])
@@ -235,9 +235,9 @@ moves =
     ∷ form "24 and 25 send the rest of screen and line" 1 0 (sends 24 1 0 (from 1 0 "BcdeFGH") ∷ sends 25 1 0 (from 1 0 "Bcd") ∷ [])
     ∷ form "5 is limited in x and in y" 2 0 (asks (5 ∷ 4 ∷ 0 ∷ []) 3 0 (error 5 3) ∷ asks (5 ∷ 1 ∷ 2 ∷ []) 1 1 (error 5 3) ∷ [])
     ∷ form "5 limited in both draws one ERROR 3" 2 0 (asks (5 ∷ 255 ∷ 255 ∷ 9 ∷ []) 3 1 (error 5 3) ∷ [])
-    ∷ form "8 up, 9 down, 10 left, 11 right, none at the edge" 3 0 (goes 8 3 0 ∷ goes 11 3 0 ∷ goes 9 3 1 ∷ goes 9 3 1 ∷ goes 10 2 1 ∷ [])
+    ∷ form "8 up, 9 down, 10 left, 11 right" 3 0 (goes 8 3 0 ∷ goes 11 3 0 ∷ goes 9 3 1 ∷ goes 9 3 1 ∷ goes 10 2 1 ∷ [])
     ∷ form "steps back, and 17 answers 18 x y" 0 1 (goes 10 0 1 ∷ goes 8 0 0 ∷ goes 11 1 0 ∷ sends 17 1 0 (det (18 ∷ 1 ∷ 0 ∷ [])) ∷ [])
-    ∷ form "1 to 4 are answered with the terminal's own map" 2 0
+    ∷ form "1 to 4 answer the terminal's own map" 2 0
     (hears (det (1 ∷ 0 ∷ [])) (det (1 ∷ 54 ∷ [])) ∷ hears (det (2 ∷ 0 ∷ [])) (det (2 ∷ 31 ∷ []))
     ∷ hears (det (3 ∷ 0 ∷ [])) (det (3 ∷ 63 ∷ [])) ∷ hears (det (4 ∷ 0 ∷ 0 ∷ [])) (det (4 ∷ 144 ∷ 121 ∷ [])) ∷ [])
     ∷ form "41 has no answer and no effect" 2 0 (hears (det (41 ∷ 5 ∷ 3 ∷ [])) [] ∷ [])
@@ -245,7 +245,7 @@ moves =
     ∷ form "keys 128 and 143 send FN 1 and 16" 2 0 (press 128 2 0 (det (40 ∷ 1 ∷ [])) ∷ press 143 2 0 (det (40 ∷ 16 ∷ [])) ∷ [])
     ∷ []
 
-pub moves-pass : AllPass moves
+pub moves-pass : Passes moves
 unfolding computing seeing moves
 moves-pass = (tt, (tt, (tt, (tt, (tt, (tt, (tt, (tt, (tt, (tt, (tt, (tt, (tt, (tt, (tt, (tt, (tt, tt)))))))))))))))))
 
@@ -257,7 +257,7 @@ erasesAll = reads (det (29 ∷ [])) (λ s. see 0 0 "        " (attributed (repli
 
 unfoldable pub edits : List Case
 edits =
-    form "30 erases the line's cells that are not guarded" 1 0 (does 30 1 0 "AB  eFGH" ∷ [])
+    form "30 erases the line where it is not guarded" 1 0 (does 30 1 0 "AB  eFGH" ∷ [])
     ∷ lifted "30 erases the line while suppressed" 1 0 (does 30 1 0 "    eFGH" ∷ [])
     ∷ form "30 in the second line" 3 1 (does 30 3 1 "ABcd FGH" ∷ [])
     ∷ form "31 erases the field" 0 1 (does 31 0 1 "AB   FGH" ∷ []) ∷ lifted "31 erases a protected field while suppressed" 2 1 (does 31 2 1 "ABcde   " ∷ [])
@@ -265,17 +265,17 @@ edits =
     ∷ form "32 erases the rest of the screen" 3 0 (does 32 3 0 "ABc  FGH" ∷ []) ∷ lifted "32 while suppressed" 3 0 (does 32 3 0 "ABc     " ∷ [])
     ∷ form "33 erases the rest of the line" 1 0 (does 33 1 0 "AB  eFGH" ∷ []) ∷ lifted "33 while suppressed" 1 0 (does 33 1 0 "A   eFGH" ∷ [])
     ∷ form "34 erases the rest of the field" 3 0 (does 34 3 0 "ABc  FGH" ∷ []) ∷ lifted "34 while suppressed" 2 1 (does 34 2 1 "ABcdeF  " ∷ [])
-    ∷ form "35 erases all unprotected cells, cursor as after 21" 3 1 (does 35 2 0 "AB   FGH" ∷ [])
-    ∷ lifted "35 erases the unprotected cells alone while suppressed" 3 1 (does 35 2 0 "AB   FGH" ∷ [])
+    ∷ form "35 erases all unprotected cells" 3 1 (does 35 2 0 "AB   FGH" ∷ [])
+    ∷ lifted "35 while suppressed" 3 1 (does 35 2 0 "AB   FGH" ∷ [])
     ∷ form "29 leaves spaces, attributes 0, cursor (0,0)" 3 1 (erasesAll ∷ sends 21 0 0 (from 0 0 "        ") ∷ [])
     ∷ lifted "29 leaves protection suppressed" 3 1 (erasesAll ∷ [])
     ∷ free "37 writes as host data, at the last cell too" 2 1
     (reads (det (37 ∷ 3 ∷ 0x78 ∷ [])) (see 3 1 "abcdefxx") [] ∷ reads (det (37 ∷ 1 ∷ 0x79 ∷ [])) (see 3 1 "abcdefxy") [] ∷ [])
-    ∷ form "37 no times; a character outside 32 to 126 draws ERROR 11" 2 0
+    ∷ form "37 no times; ERROR 11" 2 0
     (hears (det (37 ∷ 0 ∷ 0x78 ∷ [])) [] ∷ errs 11 37 (0 ∷ 31 ∷ []) ∷ errs 11 37 (1 ∷ 127 ∷ []) ∷ [])
     ∷ []
 
-pub edits-pass : AllPass edits
+pub edits-pass : Passes edits
 unfolding computing seeing edits
 edits-pass = (tt, (tt, (tt, (tt, (tt, (tt, (tt, (tt, (tt, (tt, (tt, (tt, (tt, (tt, (tt, (tt, (tt, (tt, tt))))))))))))))))))
 
@@ -287,14 +287,14 @@ wide = starting 128 2 false (replicate 256 0x2e) (replicate 256 0) 0 0
 
 unfoldable pub formatting : List Case
 formatting =
-    form "36 sets the attribute bytes of its count of cells from the cursor" 2 0
+    form "36 sets attributes from the cursor" 2 0
     (formats (0 ∷ 0 ∷ 0 ∷ 6 ∷ []) (replicate 2 8 ++ replicate 6 0) ∷ sends 23 2 0 (from 2 0 "cdeFGH") ∷ [])
     ∷ form "36 of count 0 does nothing" 2 0 (hears (det (36 ∷ 8 ∷ 0 ∷ 0 ∷ 0 ∷ [])) [] ∷ sends 23 2 0 (from 2 0 "cde") ∷ [])
     ∷ form "36 writes its first map byte" 2 0
     (formats (31 ∷ 0 ∷ 0 ∷ 1 ∷ []) (8 ∷ 8 ∷ 31 ∷ 0 ∷ 0 ∷ replicate 3 8) ∷ sends 23 2 0 (from 2 0 "c") ∷ [])
     ∷ lifted "36 leaves protection suppressed" 2 0 (formats (16 ∷ 0 ∷ 0 ∷ 2 ∷ []) (8 ∷ 8 ∷ 16 ∷ 16 ∷ 0 ∷ replicate 3 8) ∷ [])
     -- where six cells remain
-    ∷ form "36: ERROR 12 goes before ERROR 11, and seven cells where six remain draw it" 2 0
+    ∷ form "36: ERROR 12, then ERROR 11" 2 0
     (errs 12 36 (32 ∷ 0 ∷ 0 ∷ 7 ∷ []) ∷ errs 12 36 (0 ∷ 1 ∷ 0 ∷ 7 ∷ []) ∷ errs 12 36 (128 ∷ 0 ∷ 0 ∷ 0 ∷ [])
     ∷ errs 11 36 (0 ∷ 0 ∷ 0 ∷ 7 ∷ []) ∷ errs 11 36 (0 ∷ 0 ∷ 1 ∷ 0 ∷ []) ∷ [])
     ∷ case "36: the count's high byte counts 256" wide
@@ -302,7 +302,7 @@ formatting =
     ∷ case "36: one more than 256 where 256 remain" wide (hostTrial 1794 (det (36 ∷ 9 ∷ 0 ∷ 1 ∷ 1 ∷ [])) 10 unchanged (error 36 11) ∷ [])
     ∷ []
 
-pub formatting-pass : AllPass formatting
+pub formatting-pass : Passes formatting
 unfolding computing seeing formatting
 formatting-pass = (tt, (tt, (tt, (tt, (tt, (tt, (tt, tt)))))))
 
@@ -310,18 +310,18 @@ formatting-pass = (tt, (tt, (tt, (tt, (tt, (tt, (tt, tt)))))))
 
 unfoldable pub errors : List Case
 errors =
-    form "too few parameters ERROR 10, too many 9, however long: of 5" 2 0
+    form "too few parameters 10, too many 9" 2 0
     (errs 10 5 [] ∷ errs 10 5 (1 ∷ []) ∷ errs 9 5 (replicate 3 1) ∷ errs 9 5 (replicate 10 1) ∷ [])
     ∷ form "too many parameters where none are taken" 2 0 (errs 9 11 (1 ∷ []) ∷ errs 9 11 (replicate 8 1) ∷ [])
-    ∷ form "the count of parameters goes before their values: of 36" 2 0
+    ∷ form "parameter count goes before values" 2 0
     (errs 10 36 (replicate 3 32) ∷ errs 9 36 (replicate 5 32) ∷ errs 9 36 (replicate 12 32) ∷ [])
     ∷ form "all other codes draw ERROR 2" 2 0 (map (λ code. errs 2 code []) (0 ∷ 6 ∷ 7 ∷ 13 ∷ 14 ∷ 18 ∷ 27 ∷ 28 ∷ 39 ∷ 40 ∷ 42 ∷ 254 ∷ []))
-    ∷ form "an unknown code draws ERROR 2 whatever follows it, and 255 is doubled" 2 0
+    ∷ form "an unknown code, whatever follows it" 2 0
     (errs 2 6 (replicate 8 1) ∷ hears (det (255 ∷ 255 ∷ [])) (det (41 ∷ 255 ∷ 255 ∷ 2 ∷ [])) ∷ [])
     ∷ lifted "ERROR leaves protection suppressed" 2 0 (errs 2 6 [] ∷ errs 9 11 (1 ∷ []) ∷ errs 11 37 (0 ∷ 31 ∷ []) ∷ [])
     ∷ []
 
-pub errors-pass : AllPass errors
+pub errors-pass : Passes errors
 unfolding computing seeing errors
 errors-pass = (tt, (tt, (tt, (tt, (tt, (tt, tt))))))
 
@@ -329,14 +329,14 @@ errors-pass = (tt, (tt, (tt, (tt, (tt, (tt, tt))))))
 
 unfoldable pub telnet : List Case
 telnet =
-    form "IAC SB in a subnegotiation begins anew, and the new one is obeyed" 2 0
+    form "IAC SB in a subnegotiation begins anew" 2 0
     (reads (0xff ∷ 0xfa ∷ 0x14 ∷ 17 ∷ det (11 ∷ [])) (at 3 0) [] ∷ [])
-    ∷ form "DO in a subnegotiation throws it away and is answered; its end means nothing" 2 0
+    ∷ form "DO in a subnegotiation throws it away" 2 0
     (hears (0xff ∷ 0xfa ∷ 0x14 ∷ 11 ∷ verb 253 3) (verb 252 3) ∷ hears (0xff ∷ 0xf0 ∷ []) [] ∷ reads (characters "x") (see 3 0 "ABxdeFGH") [] ∷ [])
     ∷ form "so does a command that does nothing" 2 0 (hears (0xff ∷ 0xfa ∷ 0x14 ∷ 11 ∷ 0xff ∷ 0xf1 ∷ 0xff ∷ 0xf0 ∷ []) [] ∷ [])
     ∷ form "option 255 is single, in our answers too" 2 0
     (hears (verb 253 255) (verb 252 255) ∷ hears (verb 251 255) (verb 254 255) ∷ reads (characters "x") (see 3 0 "ABxdeFGH") [] ∷ [])
-    ∷ form "subnegotiations of other options, and without option byte, are ignored" 2 0
+    ∷ form "other subnegotiations are ignored" 2 0
     (hears (0xff ∷ 0xfa ∷ 21 ∷ 11 ∷ 0xff ∷ 0xf0 ∷ []) [] ∷ hears (0xff ∷ 0xfa ∷ 0xff ∷ 0xff ∷ 11 ∷ 0xff ∷ 0xf0 ∷ []) []
     ∷ hears (0xff ∷ 0xfa ∷ 0xff ∷ 0xf0 ∷ []) [] ∷ [])
     ∷ form "a command cut in two with a key between" 2 0
@@ -345,25 +345,25 @@ telnet =
     ∷ form "a command cut after each IAC" 2 0
     (reads (0xff ∷ []) (reading Iac []) [] ∷ reads (0xfa ∷ 0x14 ∷ 11 ∷ 0xff ∷ []) (reading (InsideIac 20) (11 ∷ [])) []
     ∷ reads (0xf0 ∷ []) (λ s. reading Rest [] (at 3 0 s)) [] ∷ [])
-    ∷ form "cut after IAC SB, after IAC SB IAC and after a verb" 2 0
+    ∷ form "cut after IAC SB and after a verb" 2 0
     (reads (0xff ∷ 0xfa ∷ []) (reading Opening []) [] ∷ reads (0xff ∷ []) (reading OpeningIac []) []
     ∷ reads (0xf0 ∷ 0xff ∷ 253 ∷ []) (reading (Negotiating Do) []) [] ∷ reads (3 ∷ []) (reading Rest []) (verb 252 3) ∷ [])
-    ∷ form "six bytes are held after the option byte, and their count stops there" 2 0
+    ∷ form "six bytes are held, the count stops there" 2 0
     (reads (0xff ∷ 0xfa ∷ 0x14 ∷ 1 ∷ 2 ∷ replicate 9 3) (reading (Inside 20) (1 ∷ 2 ∷ replicate 4 3)) [] ∷ [])
     ∷ form "another option's bytes are held" 2 0 (reads (0xff ∷ 0xfa ∷ 21 ∷ 7 ∷ 8 ∷ []) (reading (Inside 21) (7 ∷ 8 ∷ [])) [] ∷ [])
     ∷ case "bytes are held while DET is off" off (reads (0xff ∷ 0xfa ∷ 0x14 ∷ 7 ∷ 0xff ∷ 0xff ∷ []) (reading (Inside 20) (7 ∷ 255 ∷ [])) [] ∷ [])
-    ∷ case "held bytes are 0 again at the option byte" (holds (1 ∷ 2 ∷ 3 ∷ [])) (reads (0xff ∷ 0xfa ∷ 0x14 ∷ []) (reading (Inside 20) []) [] ∷ [])
-    ∷ case "held bytes are 0 again after a subnegotiation without option byte" (holds (1 ∷ 2 ∷ 3 ∷ []))
+    ∷ case "held bytes 0 again at the option byte" (holds (1 ∷ 2 ∷ 3 ∷ [])) (reads (0xff ∷ 0xfa ∷ 0x14 ∷ []) (reading (Inside 20) []) [] ∷ [])
+    ∷ case "held bytes 0 again after IAC SB IAC SE" (holds (1 ∷ 2 ∷ 3 ∷ []))
     (reads (0xff ∷ 0xfa ∷ 0xff ∷ 0xf0 ∷ []) (reading Rest []) [] ∷ [])
-    ∷ case "held bytes are 0 again after one thrown away" (holds (1 ∷ 2 ∷ 3 ∷ [])) (reads (0xff ∷ 0xfa ∷ 0xff ∷ 0xf1 ∷ []) (reading Rest []) [] ∷ [])
-    ∷ case "held bytes are 0 again after another option's" off (hears (0xff ∷ 0xfa ∷ 21 ∷ 7 ∷ 0xff ∷ 0xf0 ∷ []) [] ∷ [])
+    ∷ case "held bytes 0 again after one thrown away" (holds (1 ∷ 2 ∷ 3 ∷ [])) (reads (0xff ∷ 0xfa ∷ 0xff ∷ 0xf1 ∷ []) (reading Rest []) [] ∷ [])
+    ∷ case "held bytes 0 again after another option's" off (hears (0xff ∷ 0xfa ∷ 21 ∷ 7 ∷ 0xff ∷ 0xf0 ∷ []) [] ∷ [])
     -- two questions, each answered with 8 bytes: with room 65 there are 57 left after the first, one too few; with 66 there are 58
-    ∷ form "bytes are taken while 7C + 2 bytes are free" 2 0 (hostTrial 65 (det (17 ∷ []) ++ det (17 ∷ [])) 6 unchanged (det (18 ∷ 2 ∷ 0 ∷ [])) ∷ [])
-    ∷ form "bytes are taken while 7C + 2 bytes are free, and no more are needed" 2 0
+    ∷ form "not taken with 7C + 1 bytes free" 2 0 (hostTrial 65 (det (17 ∷ []) ++ det (17 ∷ [])) 6 unchanged (det (18 ∷ 2 ∷ 0 ∷ [])) ∷ [])
+    ∷ form "taken with 7C + 2 bytes free" 2 0
     (hostTrial 66 (det (17 ∷ []) ++ det (17 ∷ [])) 12 unchanged (det (18 ∷ 2 ∷ 0 ∷ []) ++ det (18 ∷ 2 ∷ 0 ∷ [])) ∷ [])
     ∷ []
 
-pub telnet-pass : AllPass telnet
+pub telnet-pass : Passes telnet
 unfolding computing seeing telnet
 telnet-pass = (tt, (tt, (tt, (tt, (tt, (tt, (tt, (tt, (tt, (tt, (tt, (tt, (tt, (tt, (tt, (tt, (tt, tt)))))))))))))))))
 
@@ -371,22 +371,22 @@ telnet-pass = (tt, (tt, (tt, (tt, (tt, (tt, (tt, (tt, (tt, (tt, (tt, (tt, (tt, (
 
 unfoldable pub data-cases : List Case
 data-cases =
-    lifted "DONT 20 while on: off, WONT 20, protection in effect; DO 20 while off: on, WILL 20" 0 0
+    lifted "DONT 20 while on, DO 20 while off" 0 0
     (reads (verb 254 20) (modes false false) (verb 252 20) ∷ hears (verb 254 20) [] ∷ hears (characters "x") [] ∷ hears (det (11 ∷ [])) []
     ∷ reads (verb 253 20) (modes true false) (verb 251 20) ∷ hears (verb 253 20) [] ∷ sends 23 0 0 (from 0 0 "") ∷ [])
-    ∷ form "any WILL: DONT it; WONT, and DONT of another, are not answered" 2 0
+    ∷ form "WILL is answered DONT, WONT not" 2 0
     (hears (verb 251 20) (verb 254 20) ∷ hears (verb 252 20) [] ∷ hears (verb 254 3) [] ∷ [])
     ∷ case "DO and WILL of another option while DET is off" off (hears (verb 253 3) (verb 252 3) ∷ hears (verb 251 20) (verb 254 20) ∷ [])
-    ∷ form "BS goes one left, LF a line down, and they stop at the edge" 2 0
+    ∷ form "BS and LF stop at the edge" 2 0
     (reads (8 ∷ []) (at 1 0) [] ∷ reads (10 ∷ []) (at 1 1) [] ∷ reads (10 ∷ 8 ∷ 8 ∷ []) (at 0 1) [] ∷ [])
     ∷ form "CR sets x to 0" 3 1 (reads (13 ∷ []) (at 0 1) [] ∷ [])
-    ∷ form "other data, 255 too, and other IAC commands do nothing" 2 0
+    ∷ form "other data and IAC commands do nothing" 2 0
     (hears (0 ∷ 7 ∷ 9 ∷ 31 ∷ 127 ∷ 128 ∷ 254 ∷ 0xff ∷ 0xff ∷ []) [] ∷ hears (0xff ∷ 0x41 ∷ 0xff ∷ 0xf1 ∷ []) [] ∷ [])
     ∷ free "at the last cell the cursor stays" 2 1 (reads (characters "xyz") (see 3 1 "abcdefxz") [] ∷ [])
     ∷ case "host text while DET is off" off (reads (characters "x") (see 3 0 "ABxdeFGH") [] ∷ [])
     ∷ []
 
-pub data-pass : AllPass data-cases
+pub data-pass : Passes data-cases
 unfolding computing seeing data-cases
 data-pass = (tt, (tt, (tt, (tt, (tt, (tt, (tt, (tt, tt))))))))
 
@@ -405,14 +405,14 @@ order =
     ∷ both "refusal 5 goes before 9" 5 29 (line 4 (characters "abcd") 0)
     ∷ denied "refusal 9, a key with no meaning" (line 4 (characters "abcd") 0)
     (map (λ k. (9, 30, k)) (0 ∷ 1 ∷ 7 ∷ 10 ∷ 12 ∷ 14 ∷ 31 ∷ 144 ∷ 255 ∷ []))
-    ∷ denied "refusal 8, send and function keys while DET is off" off
+    ∷ denied "refusal 8, send or function key, DET off" off
     ((5, 57, 13) ∷ (5, 57, 128) ∷ (8, 58, 13) ∷ (8, 58, 128) ∷ (8, 58, 136) ∷ (8, 58, 143) ∷ (9, 58, 144) ∷ [])
     ∷ denied "refusal 6, typed or delete on a guarded cell" (label false 1 0)
     ((5, 57, char "x") ∷ (5, 57, 127) ∷ (6, 58, char "x") ∷ (6, 58, 127) ∷ [])
     ∷ denied "refusal 7, typed not of the cell's class" (cell 24 false) ((5, 8, char "x") ∷ (7, 9, char "x") ∷ [])
     ∷ []
 
-pub order-pass : AllPass order
+pub order-pass : Passes order
 unfolding computing seeing order
 order-pass = (tt, (tt, (tt, (tt, (tt, (tt, (tt, (tt, (tt, tt)))))))))
 
@@ -432,12 +432,12 @@ refusals =
     ∷ both "refusal 4, the cursor off the screen in y" 4 58 (label false 0 2)
     ∷ both "refusal 4, more than six bytes held" 4 58 (holds (replicate 7 0))
     ∷ case "a key with six bytes held leaves the reader" (holds (replicate 6 1)) (types "x" 3 0 "ABxdeFGH" ∷ [])
-    ∷ case "six bytes held at rest are not the next command's" (holds (replicate 6 1))
+    ∷ case "bytes held at rest are not the next command's" (holds (replicate 6 1))
     (reads (det (11 ∷ [])) (λ s. reading Rest [] (at 3 0 s)) [] ∷ [])
     ∷ form "reply room 58 accepted, 57 refused 5" 2 0 (hears (det (17 ∷ [])) (det (18 ∷ 2 ∷ 0 ∷ [])) ∷ refusedTrial 5 57 (host (det (17 ∷ []))) ∷ [])
     ∷ []
 
-pub refusals-pass : AllPass refusals
+pub refusals-pass : Passes refusals
 unfolding computing seeing refusals
 refusals-pass = (tt, (tt, (tt, (tt, (tt, (tt, (tt, (tt, (tt, (tt, (tt, (tt, (tt, (tt, (tt, tt)))))))))))))))
 
@@ -459,7 +459,7 @@ declines title number m n chars attrs =
 
 unfoldable pub opened-cases : List Case
 opened-cases =
-    opens "open writes spaces and zero attributes, cursor (0,0), DET off, protection in effect" 4 2
+    opens "open leaves a blank screen, DET off" 4 2
     ∷ opens "open of 1 by 1" 1 1 ∷ opens "M 132 accepted" 132 1 ∷ opens "N 64 accepted" 1 64
     ∷ declines "M 133 refused 1" 1 133 1 133 133 ∷ declines "N 65 refused 1" 1 1 65 65 65
     ∷ declines "M 0 refused 1" 1 0 2 0 0 ∷ declines "N 0 refused 1" 1 4 0 0 0
@@ -468,7 +468,7 @@ opened-cases =
     ∷ declines "open: refusal 1 goes before 2" 1 133 2 3 4
     ∷ []
 
-pub opened-pass : AllPass opened-cases
+pub opened-pass : Passes opened-cases
 unfolding computing seeing opened-cases
 opened-pass = (tt, (tt, (tt, (tt, (tt, (tt, (tt, (tt, (tt, (tt, (tt, tt)))))))))))
 

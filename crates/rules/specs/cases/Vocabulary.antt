@@ -144,12 +144,9 @@ sameAll (x ∷ xs) (y ∷ ys) = sameSeen x y && sameAll xs ys
 -- no proof of this can be given, and the checker says for which title it wants one
 pub data Fails (title : String) : Type 0 where
 
-abbrev pub Passes : Case → Type 0
-Passes c = if sameAll (c .observed) (c .expected) then Unit {0} else Fails (c .title)
-
-abbrev pub AllPass : List Case → Type 0
-AllPass [] = Unit {0}
-AllPass (c ∷ cs) = Passes c × AllPass cs
+abbrev pub Passes : List Case → Type 0
+Passes [] = Unit {0}
+Passes (c ∷ cs) = (if sameAll (c .observed) (c .expected) then Unit {0} else Fails (c .title)) × Passes cs
 
 -- ---- states
 

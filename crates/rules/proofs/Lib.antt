@@ -2,6 +2,8 @@ pub mod Passing
 pub mod Worked
 pub mod Shut
 pub mod All
+pub mod Rows
+pub mod Executed
 pub mod Refusals
 pub mod Errors
 pub mod Calls
@@ -13,7 +15,6 @@ pub mod Sound
 pub mod Room
 pub mod Running
 pub mod Safe
-pub mod Rows
 pub mod SafeEffects
 pub mod Noninterference
 pub mod Needed

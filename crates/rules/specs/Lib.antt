@@ -9,5 +9,6 @@ pub mod Subcommand
 pub mod Key
 pub mod Operation
 pub mod Call
+pub mod Executed
 pub mod Noninterference
 pub mod cases

@@ -2,7 +2,7 @@
 use mathlib.Core.Path.{_≡_, ap}
 use mathlib.Core.List.{List, [], _∷_, _++_, map}
 -- the worked cases are checked first, so that a wrong rule is refused there
-use Rattle.rules.proofs.Shut.{shut-holds}
+use Rattle.rules.proofs.Every.{every-option}
 
 module _ {A : Type 0} (P : A → Type 0) where
   abbrev pub All : List A → Type 0

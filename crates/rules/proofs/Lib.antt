@@ -3,6 +3,7 @@ pub mod Worked
 pub mod Shut
 pub mod All
 pub mod Rows
+pub mod Every
 pub mod Executed
 pub mod Refusals
 pub mod Errors

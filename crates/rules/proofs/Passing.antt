@@ -1,21 +1,22 @@
 -- A case that passes shows what is expected of it.
-use mathlib.Core.Path.{_≡_, refl, sym, ap₂, _∙_}
+use mathlib.Core.Path.{_≡_, refl, sym, ap, ap₂, _∙_}
 use mathlib.Core.Bool.{Bool, true, false, _&&_}
 use mathlib.Core.List.{List, [], _∷_, _++_}
-use Prim.Native.Nat.{ℕ}
+use Prim.Native.Nat.{ℕ, zero, suc, _<_}
 use Prim.Native.String.{String}
+use native.Mathlib.Omega.{arith}
 use borrow.Author.Tests.{eqb-true}
 use lib.Dec.{eqb}
-use lib.ListN.{getD}
+use lib.ListN.{length, getD}
 use Rattle.telnet.specs.declared.Phase.{Phase}
 use Rattle.telnet.specs.declared.Phase.the-variants.{Rest, Iac, Negotiating, Opening, OpeningIac, Inside, InsideIac}
 use Rattle.telnet.specs.declared.Verb.{Verb}
 use Rattle.telnet.specs.declared.Verb.the-variants.{Will, Wont, Do, Dont}
 use Rattle.screen.specs.Words.{if_then_else_}
 use Rattle.screen.specs.Cells.{place}
-use Rattle.screen.proofs.WordLaws.{not-both, true-or-false, and-left, and-right}
+use Rattle.screen.proofs.WordLaws.{not-both, true-or-false, less-or-not, and-left, and-right}
 use Rattle.rules.specs.Session.{session, screen, state}
-use Rattle.rules.specs.cases.Vocabulary.{Seen, Case, bit, phaseNumbers, numbers, same, sameSeen, sameAll, Fails, Passes, observed, expected}
+use Rattle.rules.specs.cases.Vocabulary.{Seen, Case, bit, phaseNumbers, numbers, same, sameSeen, sameAll, Fails, Passes, failures, observed, expected}
 
 -- ---- what is seen, from its numbers and lists
 
@@ -82,7 +83,7 @@ same-equal [] (y ∷ ys) e = not-both false e refl
 same-equal (x ∷ xs) [] e = not-both false e refl
 same-equal (x ∷ xs) (y ∷ ys) e = ap₂ _∷_ (eqb-true x y (and-left _ _ e)) (same-equal xs ys (and-right (eqb x y) _ e))
 
-seen-equal : (a b : Seen) → sameSeen a b ≡ true → a ≡ b
+pub seen-equal : (a b : Seen) → sameSeen a b ≡ true → a ≡ b
 unfolding sameSeen
 seen-equal a b e =
     let e1 = and-right (same (numbers a) (numbers b)) _ e in
@@ -119,3 +120,12 @@ each-equal (c ∷ cs) p = ap₂ _∷_ (case-equal c (p .0)) (each-equal cs (p .1
 pub all-pass : (cs ds : List Case) → Passes cs → Passes ds → Passes (cs ++ ds)
 all-pass [] ds p q = q
 all-pass (c ∷ cs) ds p q = (p .0, all-pass cs ds (p .1) q)
+
+-- where no number below n fails a test, each passes it
+pub below-passes : (test : ℕ → Bool) (n : ℕ) → failures test n ≡ [] → (k : ℕ) → k < n → test k ≡ true
+unfolding failures
+below-passes test zero e k h = absurd (omega arith)
+below-passes test (suc n) e k h =
+    true-or-false (test n)
+    (λ t. less-or-not k n (λ l. below-passes test n (rw t at e) k l) (λ l. let q : k ≡ n = omega arith in rw q t))
+    (λ t. absurd (omega (arith, ap length (rw t at e))))

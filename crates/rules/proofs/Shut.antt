@@ -376,7 +376,10 @@ data-cases =
     ∷ reads (verb 253 20) (modes true false) (verb 251 20) ∷ hears (verb 253 20) [] ∷ sends 23 0 0 (from 0 0 "") ∷ [])
     ∷ form "WILL is answered DONT, WONT not" 2 0
     (hears (verb 251 20) (verb 254 20) ∷ hears (verb 252 20) [] ∷ hears (verb 254 3) [] ∷ [])
-    ∷ case "DO and WILL of another option while DET is off" off (hears (verb 253 3) (verb 252 3) ∷ hears (verb 251 20) (verb 254 20) ∷ [])
+    ∷ case "DO 3 and WILL 20 while DET is off" off (hears (verb 253 3) (verb 252 3) ∷ hears (verb 251 20) (verb 254 20) ∷ [])
+    -- a forged session: DET off and protection suppressed
+    ∷ case "DO 20 while off leaves suppression" (modes false true (label true 2 0)) (reads (verb 253 20) (modes true true) (verb 251 20) ∷ [])
+    ∷ case "DONT 20 while off does nothing" (modes false true (label true 2 0)) (hears (verb 254 20) [] ∷ [])
     ∷ form "BS and LF stop at the edge" 2 0
     (reads (8 ∷ []) (at 1 0) [] ∷ reads (10 ∷ []) (at 1 1) [] ∷ reads (10 ∷ 8 ∷ 8 ∷ []) (at 0 1) [] ∷ [])
     ∷ form "CR sets x to 0" 3 1 (reads (13 ∷ []) (at 0 1) [] ∷ [])
@@ -388,7 +391,7 @@ data-cases =
 
 pub data-pass : Passes data-cases
 unfolding computing seeing data-cases
-data-pass = (tt, (tt, (tt, (tt, (tt, (tt, (tt, (tt, tt))))))))
+data-pass = (tt, (tt, (tt, (tt, (tt, (tt, (tt, (tt, (tt, (tt, tt))))))))))
 
 -- ---- refusals
 

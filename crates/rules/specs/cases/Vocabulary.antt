@@ -1,7 +1,7 @@
 -- Worked cases. A case has a title, a start, and calls one after the other with all that each is to return and to leave.
 use mathlib.Core.Bool.{Bool, true, false, _&&_}
 use mathlib.Core.List.{List, [], _∷_, _++_, map}
-use Prim.Native.Nat.{ℕ, _-_}
+use Prim.Native.Nat.{ℕ, zero, suc, _-_}
 use Prim.Native.Char.{code}
 use Prim.Native.String.{String}
 use Prim.Native.String as string
@@ -148,6 +148,11 @@ abbrev pub Passes : List Case → Type 0
 Passes [] = Unit {0}
 Passes (c ∷ cs) = (if sameAll (c .observed) (c .expected) then Unit {0} else Fails (c .title)) × Passes cs
 
+-- the numbers below n that fail a test
+unfoldable pub failures : (ℕ → Bool) → ℕ → List ℕ
+failures test zero = []
+failures test (suc n) = let rest = failures test n in if test n then rest else n ∷ rest
+
 -- ---- states
 
 abbrev framed : ℕ → ℕ → ℕ → ℕ → Bool → Bool → Frame
@@ -203,5 +208,5 @@ refusedTrial number room call = record { call = call; room = room; refusal = num
 
 -- names what a proof about cases computes with, beside the rules
 unfoldable pub seeing : ℕ
-unfolding characters expectedIn observedIn phaseNumbers numbers same sameSeen sameAll
+unfolding characters expectedIn observedIn phaseNumbers numbers same sameSeen sameAll failures
 seeing = 0

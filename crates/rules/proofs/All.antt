@@ -1,7 +1,7 @@
 -- A fact of every element of a list.
 use mathlib.Core.Path.{_≡_, ap}
 use mathlib.Core.List.{List, [], _∷_, _++_, map}
--- the worked cases are checked first, so that a wrong rule is refused there
+-- the worked cases and the sentences over all values are checked first, so that a wrong rule is refused there
 use Rattle.rules.proofs.Every.{every-option}
 
 module _ {A : Type 0} (P : A → Type 0) where

@@ -16,7 +16,7 @@ use Rattle.rules.specs.Command.{Row, Listed, listed, unlisted, rowOf, co
 use Rattle.rules.specs.Cursor.{limited}
 use Rattle.rules.specs.Subcommand.{erring, judged, looked, subcommand}
 -- the sentences of document 01 are checked first, so that a wrong rule is refused there
-use Rattle.rules.proofs.Executed.{seven}
+use Rattle.rules.proofs.Causes.{nothing-else}
 
 -- the view after an ERROR: as before, but for the cursor that MOVE CURSOR has limited
 abbrev pub afterFault : View → Held → Fault → View

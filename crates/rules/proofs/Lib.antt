@@ -5,6 +5,7 @@ pub mod All
 pub mod Rows
 pub mod Every
 pub mod Executed
+pub mod Causes
 pub mod Refusals
 pub mod Errors
 pub mod Calls

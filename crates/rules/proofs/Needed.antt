@@ -21,7 +21,7 @@ use Rattle.rules.specs.cases.Computing.{computing}
 use Rattle.rules.specs.cases.Vocabulary.{characters, same, starting}
 use Rattle.rules.specs.Noninterference.{noneReaches, Alike, Untold}
 -- the sentences of document 01 are checked first, so that a wrong rule is refused there
-use Rattle.rules.proofs.Executed.{seven}
+use Rattle.rules.proofs.Causes.{nothing-else}
 
 -- ---- two screens: form F with patient number #4 and with #5; the digit, cell 7, is protected
 

@@ -19,7 +19,7 @@ use Rattle.rules.specs.Session.{replyRoom, freshFrame}
 use Rattle.rules.specs.Effect.{Part, bytes, text, spelled, spelledAll}
 use Rattle.rules.specs.Subcommand.{fieldTexts, withoutFirst}
 -- the sentences of document 01 are checked first, so that a wrong rule is refused there
-use Rattle.rules.proofs.Executed.{seven}
+use Rattle.rules.proofs.Causes.{nothing-else}
 
 -- a reply that fits into the reply room of a screen m cells wide and n lines high
 abbrev pub InRoom : ℕ → ℕ → List Part → Type 0

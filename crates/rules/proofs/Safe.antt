@@ -18,7 +18,7 @@ use Rattle.rules.specs.Effect.{Change, put, erase, shift, changed, chang
 use Rattle.rules.specs.Noninterference.{Alike, Kept}
 use Rattle.rules.proofs.All.{All}
 -- the sentences of document 01 are checked first, so that a wrong rule is refused there
-use Rattle.rules.proofs.Executed.{seven}
+use Rattle.rules.proofs.Causes.{nothing-else}
 
 -- no cell of the range is protected
 abbrev pub Open : List ℕ → ℕ → ℕ → Type 0

@@ -10,5 +10,6 @@ pub mod Key
 pub mod Operation
 pub mod Call
 pub mod Executed
+pub mod Causes
 pub mod Noninterference
 pub mod cases

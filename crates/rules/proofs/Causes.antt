@@ -176,30 +176,11 @@ module _ (v : View) (h : Held) where
       (all-append LeavesRow (take 11 (drop 10 rows)) (drop 21 rows)
       -- 15, 16, 17, 19, 20 to 26
       (edits refl, (edits refl, (says, (moves refl, (moves refl, (moves refl, (moves refl, (says, (says, (says, (says, tt)))))))))))
+      (all-append LeavesRow (take 7 (drop 21 rows)) (drop 28 rows)
       -- 29 to 35
-      (
-        clears refl refl refl,
-        (
-          edits refl,
-          (
-            edits refl,
-            (
-              edits refl,
-              (
-                edits refl,
-                (
-                  edits refl,
-                  (
-                    writes refl refl,
-                    -- 36, 37, 38, 41
-                    (formats refl, (leaves-characters refl refl _ v _, (leaves-suppressing refl _, (says, tt)))),
-                  ),
-                ),
-              ),
-            ),
-          ),
-        ),
-      ))
+      (clears refl refl refl, (edits refl, (edits refl, (edits refl, (edits refl, (edits refl, (writes refl refl, tt)))))))
+      -- 36, 37, 38, 41
+      (formats refl, (leaves-characters refl refl _ v _, (leaves-suppressing refl _, (says, tt))))))
 
   -- what was obeyed, by what was executed
   abbrev LeavesCommand : Effect → Type 0

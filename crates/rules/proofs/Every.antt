@@ -35,7 +35,8 @@ det payload = 0xff ∷ 0xfa ∷ 0x14 ∷ (payload ++ (0xff ∷ 0xf0 ∷ []))
 -- how many parameters the document's list gives a code, if it has the code
 unfoldable pub listedParameters : ℕ → List ℕ
 listedParameters code =
-    if oneOf (8 ∷ 9 ∷ 10 ∷ 11 ∷ 12 ∷ 15 ∷ 16 ∷ 17 ∷ 19 ∷ 20 ∷ 21 ∷ 22 ∷ 23 ∷ 24 ∷ 25 ∷ 26 ∷ 29 ∷ 30 ∷ 31 ∷ 32 ∷ 33 ∷ 34 ∷ 35 ∷ []) code then 0 ∷ []
+    if oneOf (8 ∷ 9 ∷ 10 ∷ 11 ∷ 12 ∷ 15 ∷ 16 ∷ 17 ∷ 19 ∷ 20 ∷ 21 ∷ 22 ∷ 23 ∷ 24 ∷ 25 ∷ 26 ∷ 29 ∷ 30 ∷ 31 ∷ 32 ∷ 33 ∷ 34 ∷ 35 ∷ []) code
+    then 0 ∷ []
     else if oneOf (1 ∷ 2 ∷ 3 ∷ 38 ∷ []) code then 1 ∷ []
     else if oneOf (4 ∷ 5 ∷ 37 ∷ 41 ∷ []) code then 2 ∷ []
     else if eqb code 36 then 4 ∷ []

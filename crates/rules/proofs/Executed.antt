@@ -78,7 +78,8 @@ module _ (v : View) (h : Held) where
   unfolding hostData hostCharacter
   data-none b =
       either None (printable b) (λ q. either None (cursorGuarded v) (λ q. refl) (λ q. refl))
-      (λ q. either None (eqb b 13) (λ q. refl) (λ q. either None (eqb b 10) (λ q. refl) (λ q. either None (eqb b 8) (λ q. refl) (λ q. refl))))
+      (λ q. either None (eqb b 13) (λ q. refl)
+      (λ q. either None (eqb b 10) (λ q. refl) (λ q. either None (eqb b 8) (λ q. refl) (λ q. refl))))
 
   negotiated-none : (verb : Verb) (option : ℕ) → None (negotiated v verb option)
   unfolding negotiated

@@ -70,9 +70,11 @@ seenOf ns held chars attrs reply =
       reply = reply;
     }
 
-seen-back : (a : Seen) → seenOf (numbers a) (a .left .session .reader .held .bytes) (a .left .screen .chars) (a .left .screen .attrs) (a .reply) ≡ a
+seen-back : (a : Seen) → let s = a .left .session in
+    seenOf (numbers a) (s .reader .held .bytes) (a .left .screen .chars) (a .left .screen .attrs) (a .reply) ≡ a
 unfolding numbers
-seen-back a = rw (bit-back (a .left .session .frame .det), bit-back (a .left .session .frame .suppressed), phase-back (a .left .session .reader .phase))
+seen-back a =
+    let s = a .left .session in rw (bit-back (s .frame .det), bit-back (s .frame .suppressed), phase-back (s .reader .phase))
 
 -- ---- equal where the tests pass
 

@@ -260,11 +260,15 @@ edits =
     form "30 erases the line where it is not guarded" 1 0 (does 30 1 0 "AB  eFGH" ∷ [])
     ∷ lifted "30 erases the line while suppressed" 1 0 (does 30 1 0 "    eFGH" ∷ [])
     ∷ form "30 in the second line" 3 1 (does 30 3 1 "ABcd FGH" ∷ [])
-    ∷ form "31 erases the field" 0 1 (does 31 0 1 "AB   FGH" ∷ []) ∷ lifted "31 erases a protected field while suppressed" 2 1 (does 31 2 1 "ABcde   " ∷ [])
+    ∷ form "31 erases the field" 0 1 (does 31 0 1 "AB   FGH" ∷ [])
+    ∷ lifted "31 erases a protected field while suppressed" 2 1 (does 31 2 1 "ABcde   " ∷ [])
     ∷ form "31 and 34 in a guarded field" 2 1 (goes 31 2 1 ∷ goes 34 2 1 ∷ [])
-    ∷ form "32 erases the rest of the screen" 3 0 (does 32 3 0 "ABc  FGH" ∷ []) ∷ lifted "32 while suppressed" 3 0 (does 32 3 0 "ABc     " ∷ [])
-    ∷ form "33 erases the rest of the line" 1 0 (does 33 1 0 "AB  eFGH" ∷ []) ∷ lifted "33 while suppressed" 1 0 (does 33 1 0 "A   eFGH" ∷ [])
-    ∷ form "34 erases the rest of the field" 3 0 (does 34 3 0 "ABc  FGH" ∷ []) ∷ lifted "34 while suppressed" 2 1 (does 34 2 1 "ABcdeF  " ∷ [])
+    ∷ form "32 erases the rest of the screen" 3 0 (does 32 3 0 "ABc  FGH" ∷ [])
+    ∷ lifted "32 while suppressed" 3 0 (does 32 3 0 "ABc     " ∷ [])
+    ∷ form "33 erases the rest of the line" 1 0 (does 33 1 0 "AB  eFGH" ∷ [])
+    ∷ lifted "33 while suppressed" 1 0 (does 33 1 0 "A   eFGH" ∷ [])
+    ∷ form "34 erases the rest of the field" 3 0 (does 34 3 0 "ABc  FGH" ∷ [])
+    ∷ lifted "34 while suppressed" 2 1 (does 34 2 1 "ABcdeF  " ∷ [])
     ∷ form "35 erases all unprotected cells" 3 1 (does 35 2 0 "AB   FGH" ∷ [])
     ∷ lifted "35 while suppressed" 3 1 (does 35 2 0 "AB   FGH" ∷ [])
     ∷ form "29 leaves spaces, attributes 0, cursor (0,0)" 3 1 (erasesAll ∷ sends 21 0 0 (from 0 0 "        ") ∷ [])
@@ -332,7 +336,8 @@ telnet =
     form "IAC SB in a subnegotiation begins anew" 2 0
     (reads (0xff ∷ 0xfa ∷ 0x14 ∷ 17 ∷ det (11 ∷ [])) (at 3 0) [] ∷ [])
     ∷ form "DO in a subnegotiation throws it away" 2 0
-    (hears (0xff ∷ 0xfa ∷ 0x14 ∷ 11 ∷ verb 253 3) (verb 252 3) ∷ hears (0xff ∷ 0xf0 ∷ []) [] ∷ reads (characters "x") (see 3 0 "ABxdeFGH") [] ∷ [])
+    (hears (0xff ∷ 0xfa ∷ 0x14 ∷ 11 ∷ verb 253 3) (verb 252 3) ∷ hears (0xff ∷ 0xf0 ∷ []) []
+    ∷ reads (characters "x") (see 3 0 "ABxdeFGH") [] ∷ [])
     ∷ form "so does a command that does nothing" 2 0 (hears (0xff ∷ 0xfa ∷ 0x14 ∷ 11 ∷ 0xff ∷ 0xf1 ∷ 0xff ∷ 0xf0 ∷ []) [] ∷ [])
     ∷ form "option 255 is single, in our answers too" 2 0
     (hears (verb 253 255) (verb 252 255) ∷ hears (verb 251 255) (verb 254 255) ∷ reads (characters "x") (see 3 0 "ABxdeFGH") [] ∷ [])
@@ -351,11 +356,14 @@ telnet =
     ∷ form "six bytes are held, the count stops there" 2 0
     (reads (0xff ∷ 0xfa ∷ 0x14 ∷ 1 ∷ 2 ∷ replicate 9 3) (reading (Inside 20) (1 ∷ 2 ∷ replicate 4 3)) [] ∷ [])
     ∷ form "another option's bytes are held" 2 0 (reads (0xff ∷ 0xfa ∷ 21 ∷ 7 ∷ 8 ∷ []) (reading (Inside 21) (7 ∷ 8 ∷ [])) [] ∷ [])
-    ∷ case "bytes are held while DET is off" off (reads (0xff ∷ 0xfa ∷ 0x14 ∷ 7 ∷ 0xff ∷ 0xff ∷ []) (reading (Inside 20) (7 ∷ 255 ∷ [])) [] ∷ [])
-    ∷ case "held bytes 0 again at the option byte" (holds (1 ∷ 2 ∷ 3 ∷ [])) (reads (0xff ∷ 0xfa ∷ 0x14 ∷ []) (reading (Inside 20) []) [] ∷ [])
+    ∷ case "bytes are held while DET is off" off
+    (reads (0xff ∷ 0xfa ∷ 0x14 ∷ 7 ∷ 0xff ∷ 0xff ∷ []) (reading (Inside 20) (7 ∷ 255 ∷ [])) [] ∷ [])
+    ∷ case "held bytes 0 again at the option byte" (holds (1 ∷ 2 ∷ 3 ∷ []))
+    (reads (0xff ∷ 0xfa ∷ 0x14 ∷ []) (reading (Inside 20) []) [] ∷ [])
     ∷ case "held bytes 0 again after IAC SB IAC SE" (holds (1 ∷ 2 ∷ 3 ∷ []))
     (reads (0xff ∷ 0xfa ∷ 0xff ∷ 0xf0 ∷ []) (reading Rest []) [] ∷ [])
-    ∷ case "held bytes 0 again after one thrown away" (holds (1 ∷ 2 ∷ 3 ∷ [])) (reads (0xff ∷ 0xfa ∷ 0xff ∷ 0xf1 ∷ []) (reading Rest []) [] ∷ [])
+    ∷ case "held bytes 0 again after one thrown away" (holds (1 ∷ 2 ∷ 3 ∷ []))
+    (reads (0xff ∷ 0xfa ∷ 0xff ∷ 0xf1 ∷ []) (reading Rest []) [] ∷ [])
     ∷ case "held bytes 0 again after another option's" off (hears (0xff ∷ 0xfa ∷ 21 ∷ 7 ∷ 0xff ∷ 0xf0 ∷ []) [] ∷ [])
     -- two questions, each answered with 8 bytes: with room 65 there are 57 left after the first, one too few; with 66 there are 58
     ∷ form "not taken with 7C + 1 bytes free" 2 0 (hostTrial 65 (det (17 ∷ []) ++ det (17 ∷ [])) 6 unchanged (det (18 ∷ 2 ∷ 0 ∷ [])) ∷ [])
@@ -378,7 +386,8 @@ data-cases =
     (hears (verb 251 20) (verb 254 20) ∷ hears (verb 252 20) [] ∷ hears (verb 254 3) [] ∷ [])
     ∷ case "DO 3 and WILL 20 while DET is off" off (hears (verb 253 3) (verb 252 3) ∷ hears (verb 251 20) (verb 254 20) ∷ [])
     -- a forged session: DET off and protection suppressed
-    ∷ case "DO 20 while off leaves suppression" (modes false true (label true 2 0)) (reads (verb 253 20) (modes true true) (verb 251 20) ∷ [])
+    ∷ case "DO 20 while off leaves suppression" (modes false true (label true 2 0))
+    (reads (verb 253 20) (modes true true) (verb 251 20) ∷ [])
     ∷ case "DONT 20 while off does nothing" (modes false true (label true 2 0)) (hears (verb 254 20) [] ∷ [])
     ∷ form "BS and LF stop at the edge" 2 0
     (reads (8 ∷ []) (at 1 0) [] ∷ reads (10 ∷ []) (at 1 1) [] ∷ reads (10 ∷ 8 ∷ 8 ∷ []) (at 0 1) [] ∷ [])
@@ -437,7 +446,8 @@ refusals =
     ∷ case "a key with six bytes held leaves the reader" (holds (replicate 6 1)) (types "x" 3 0 "ABxdeFGH" ∷ [])
     ∷ case "bytes held at rest are not the next command's" (holds (replicate 6 1))
     (reads (det (11 ∷ [])) (λ s. reading Rest [] (at 3 0 s)) [] ∷ [])
-    ∷ form "reply room 58 accepted, 57 refused 5" 2 0 (hears (det (17 ∷ [])) (det (18 ∷ 2 ∷ 0 ∷ [])) ∷ refusedTrial 5 57 (host (det (17 ∷ []))) ∷ [])
+    ∷ form "reply room 58 accepted, 57 refused 5" 2 0
+    (hears (det (17 ∷ [])) (det (18 ∷ 2 ∷ 0 ∷ [])) ∷ refusedTrial 5 57 (host (det (17 ∷ []))) ∷ [])
     ∷ []
 
 pub refusals-pass : Passes refusals
@@ -484,7 +494,8 @@ largest = refl
 
 unfoldable pub shut : List Case
 shut =
-    classes ++ (fields ++ (guards ++ (moves ++ (edits ++ (formatting ++ (errors ++ (telnet ++ (data-cases ++ (order ++ (refusals ++ opened-cases))))))))))
+    classes ++ (fields ++ (guards ++ (moves ++ (edits ++ (formatting ++
+    (errors ++ (telnet ++ (data-cases ++ (order ++ (refusals ++ opened-cases))))))))))
 
 pub shut-holds : observed shut ≡ expected shut
 unfolding shut

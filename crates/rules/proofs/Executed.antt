@@ -1,5 +1,5 @@
 -- The premise of demand 3: the seven by their numbers, and what a call executes.
-use mathlib.Core.Path.{_≡_, refl, sym, ap, _∙_}
+use mathlib.Core.Path.{_≡_, refl, ap, ap₂, _∙_}
 use mathlib.Core.Bool.{Bool, true, false, not, _&&_}
 use mathlib.Core.List.{List, [], _∷_, map}
 use Prim.Native.Nat.{ℕ}
@@ -18,15 +18,16 @@ use Rattle.rules.specs.declared.Refusal.the-variants.{Taken, Size, Buffe
 use Rattle.rules.specs.Number.{detOption}
 use Rattle.rules.specs.Session.{View, State, printable}
 use Rattle.rules.specs.Refusal.{isTaken}
-use Rattle.rules.specs.Effect.{Effect}
+use Rattle.rules.specs.Effect.{Effect, Executed}
 use Rattle.rules.specs.Command.{Row, rows, Listed, listed, unlisted, rowOf, codeIn, reaches, reachesPast}
 use Rattle.rules.specs.Cursor.{cursorGuarded}
 use Rattle.rules.specs.Telnet.{negotiated, hostCharacter, hostData}
 use Rattle.rules.specs.Subcommand.{judged, looked, subcommand}
 use Rattle.rules.specs.Operation.{happening, hostByte, running, unless, hostBytes, hostRefusal, oneKey, keyRefusal}
 use Rattle.rules.specs.Call.{Call, host, key, called, executedBy, executedOf}
-use Rattle.rules.specs.Executed.{oneOf, isSeven, Seven, SubcommandExecutes, EventExecutes, CallExecutes}
-use Rattle.rules.proofs.All.{All, all-equal}
+use Rattle.rules.specs.Executed.{oneOf, isSeven, Seven, SubcommandExecutes, EventExecutes, CallExecutes, noneSeven, PremiseInNumbers}
+use Rattle.rules.specs.Noninterference.{noneReaches}
+use Rattle.rules.proofs.All.{All, all-append, all-equal}
 use Rattle.rules.proofs.Rows.{in-list, found-code}
 
 -- ---- the seven
@@ -132,3 +133,66 @@ module _ (s : State) where
         no-calls = refl;
         more-calls = λ c cs. refl;
       }
+
+-- ---- the premise of demand 3
+
+-- what is executed stands in the list, under the code that it came with
+abbrev Found : Executed → Type 0
+Found e = rowOf (codeIn (e .held)) ≡ listed (e .row)
+
+abbrev AllFound : Effect → Type 0
+AllFound e = All Found (e .executed)
+
+module _ (v : View) (h : Held) where
+  found-judged : (r : Row) → rowOf (codeIn h) ≡ listed r → (f : Fault) → AllFound (judged v r h f)
+  unfolding judged
+  found-judged r e NoFault = (e, tt)
+  found-judged r e OffScreen = tt
+  found-judged r e UnknownCode = tt
+  found-judged r e TooManyParameters = tt
+  found-judged r e TooFewParameters = tt
+  found-judged r e BadValue = tt
+  found-judged r e BadMap = tt
+
+  found-looked : (l : Listed) → rowOf (codeIn h) ≡ l → AllFound (looked v l h)
+  unfolding looked
+  found-looked unlisted e = tt
+  found-looked (listed r) e = found-judged r e _
+
+  found-subcommand : AllFound (subcommand v h)
+  unfolding subcommand
+  found-subcommand = either AllFound (eqb (h .count) 0) (λ q. tt) (λ q. found-looked _ refl)
+
+  found-event : (e : Event) → AllFound (happening v h e)
+  unfolding happening
+  found-event Nothing = tt
+  found-event (Data b) = rw (data-none v h b) tt
+  found-event (Negotiation verb option) = rw (negotiated-none v h verb option) tt
+  found-event (Begin option) = tt
+  found-event (Sub option b) = tt
+  found-event (End option) = either AllFound (eqb option detOption && v .frame .det) (λ q. found-subcommand) (λ q. tt)
+  found-event EndBare = tt
+  found-event Lost = tt
+
+found-run : (s : State) (bs : List ℕ) → All Found ((running s bs) .executed)
+unfolding running hostByte
+found-run s [] = tt
+found-run s (b ∷ bs) = all-append Found ((hostByte s b) .executed) _ (found-event _ _ _) (found-run _ bs)
+
+found-call : (s : State) (c : Call) → All Found (executedBy s c)
+unfolding executedBy
+found-call s (host input reply) = either (All Found) (isTaken (hostRefusal s reply)) (λ e. found-run s _) (λ e. tt)
+found-call s (key k reply) = tt
+
+found-calls : (s : State) (cs : List Call) → All Found (executedOf s cs)
+unfolding executedOf
+found-calls s [] = tt
+found-calls s (c ∷ cs) = all-append Found (executedBy s c) _ (found-call s c) (found-calls _ cs)
+
+in-numbers : (es : List Executed) → All Found es → noneReaches es ≡ noneSeven es
+unfolding noneReaches noneSeven
+in-numbers [] p = refl
+in-numbers (e ∷ es) p = ap₂ _&&_ (ap not (seven (codeIn (e .held)) (e .row) (e .held) (p .0))) (in-numbers es (p .1))
+
+pub premise-in-numbers : PremiseInNumbers
+premise-in-numbers s calls = in-numbers _ (found-calls s calls)

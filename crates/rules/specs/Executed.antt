@@ -1,7 +1,7 @@
 -- Document 01, the end of "Subcommands": which commands are executed, and which of them reach past protection. The premise of demand 3,
 -- in the document's own numbers. Nothing here is used by the rules: these are sentences about them.
 use mathlib.Core.Path.{_≡_}
-use mathlib.Core.Bool.{Bool, true, false, _&&_, _||_}
+use mathlib.Core.Bool.{Bool, true, false, not, _&&_, _||_}
 use mathlib.Core.List.{List, [], _∷_, _++_}
 use Prim.Native.Nat.{ℕ}
 use lib.Dec.{eqb}
@@ -13,10 +13,12 @@ use Rattle.rules.specs.declared.Held.{Held}
 use Rattle.rules.specs.declared.Refusal.the-variants.{Taken}
 use Rattle.rules.specs.declared.Fault.the-variants.{NoFault}
 use Rattle.rules.specs.Session.{View, State, viewOf}
+use Rattle.rules.specs.Effect.{Executed}
 use Rattle.rules.specs.Command.{Row, Listed, listed, unlisted, rowOf, codeIn, reachesPast, faultOf}
 use Rattle.rules.specs.Subcommand.{subcommand}
 use Rattle.rules.specs.Operation.{happening, hostByte, running}
 use Rattle.rules.specs.Call.{Call, host, key, called, left, executedBy, executedOf}
+use Rattle.rules.specs.Noninterference.{noneReaches}
 
 -- is a number one of these
 unfoldable pub oneOf : List ℕ → ℕ → Bool
@@ -67,3 +69,12 @@ pub record CallExecutes (s : State) : Type 0 where
   pub refused : (c : Call) → ((called s c) .answer .refusal ≡ Taken → ⊥) → executedBy s c ≡ []
   pub no-calls : executedOf s [] ≡ []
   pub more-calls : (c : Call) (cs : List Call) → executedOf s (c ∷ cs) ≡ executedBy s c ++ executedOf (left (called s c)) cs
+
+-- ---- the premise of demand 3, by the bytes that each command came in
+
+unfoldable pub noneSeven : List Executed → Bool
+noneSeven [] = true
+noneSeven (e ∷ es) = not (isSeven (getD (e .held .bytes) 0 0) (getD (e .held .bytes) 1 0)) && noneSeven es
+
+abbrev pub PremiseInNumbers : Type 0
+PremiseInNumbers = (s : State) (calls : List Call) → noneReaches (executedOf s calls) ≡ noneSeven (executedOf s calls)

@@ -9,7 +9,7 @@ pub mod Subcommand
 pub mod Key
 pub mod Operation
 pub mod Call
+pub mod Noninterference
 pub mod Executed
 pub mod Causes
-pub mod Noninterference
 pub mod cases

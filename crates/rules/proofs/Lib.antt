@@ -6,6 +6,7 @@ pub mod Rows
 pub mod Every
 pub mod Executed
 pub mod Causes
+pub mod CausesNeeded
 pub mod Refusals
 pub mod Errors
 pub mod Calls

@@ -12,8 +12,8 @@ use Rattle.rules.specs.Session.{State}
 use Rattle.rules.specs.Refusal.{isTaken}
 use Rattle.rules.specs.Operation.{Ran, Outcome, running, refusing, answering, unless, takenOf, hostRefusal, hostRan, hostBytes, keyRefusal, keyRan, oneKey}
 use Rattle.rules.specs.Call.{Call, host, key, called, left}
--- the worked cases are checked first, so that a wrong rule is refused there
-use Rattle.rules.proofs.Shut.{shut-holds}
+-- the sentences of document 01 are checked first, so that a wrong rule is refused there
+use Rattle.rules.proofs.Causes.{nothing-else}
 
 -- the bytes that a call wrote
 abbrev pub repliesIn : Outcome → List ℕ

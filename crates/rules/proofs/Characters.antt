@@ -14,8 +14,8 @@ use Rattle.screen.proofs.WordLaws.{either, and-left, and-right, both}
 use Rattle.screen.proofs.EditLaws.{shifted-length, erased-length, onPart-length}
 use Rattle.rules.specs.Session.{printable, allPrintable}
 use Rattle.rules.specs.Effect.{Change, put, erase, shift, changed, changedAll}
--- the worked cases are checked first, so that a wrong rule is refused there
-use Rattle.rules.proofs.Shut.{shut-holds}
+-- the sentences of document 01 are checked first, so that a wrong rule is refused there
+use Rattle.rules.proofs.Causes.{nothing-else}
 
 -- the characters of a screen of so many cells
 pub record Text (cells : ℕ) (chars : List ℕ) : Type 0 where

@@ -15,8 +15,8 @@ use Rattle.rules.specs.Effect.{Effect}
 use Rattle.rules.specs.Command.{Row, Listed, listed, unlisted, rowOf, codeIn, placeIn, valueFault, faultOf}
 use Rattle.rules.specs.Cursor.{limited}
 use Rattle.rules.specs.Subcommand.{erring, judged, looked, subcommand}
--- the worked cases are checked first, so that a wrong rule is refused there
-use Rattle.rules.proofs.Shut.{shut-holds}
+-- the sentences of document 01 are checked first, so that a wrong rule is refused there
+use Rattle.rules.proofs.Causes.{nothing-else}
 
 -- the view after an ERROR: as before, but for the cursor that MOVE CURSOR has limited
 abbrev pub afterFault : View → Held → Fault → View

@@ -1,6 +1,12 @@
+pub mod Passing
 pub mod Worked
 pub mod Shut
 pub mod All
+pub mod Rows
+pub mod Every
+pub mod Executed
+pub mod Causes
+pub mod CausesNeeded
 pub mod Refusals
 pub mod Errors
 pub mod Calls
@@ -12,7 +18,6 @@ pub mod Sound
 pub mod Room
 pub mod Running
 pub mod Safe
-pub mod Rows
 pub mod SafeEffects
 pub mod Noninterference
 pub mod Needed

@@ -18,10 +18,10 @@ use Rattle.rules.specs.Effect.{Executed}
 use Rattle.rules.specs.Command.{codeIn, reachesPast}
 use Rattle.rules.specs.Call.{Call, host, key, Answered, answersOf, stateAfter, executedOf}
 use Rattle.rules.specs.cases.Computing.{computing}
-use Rattle.rules.specs.cases.Vocabulary.{characters, starting}
+use Rattle.rules.specs.cases.Vocabulary.{characters, same, starting}
 use Rattle.rules.specs.Noninterference.{noneReaches, Alike, Untold}
--- the worked cases are checked first, so that a wrong rule is refused there
-use Rattle.rules.proofs.Shut.{shut-holds}
+-- the sentences of document 01 are checked first, so that a wrong rule is refused there
+use Rattle.rules.proofs.Causes.{nothing-else}
 
 -- ---- two screens: form F with patient number #4 and with #5; the digit, cell 7, is protected
 
@@ -82,22 +82,30 @@ past (e ∷ es) = (if reachesPast (e .row) (e .held) then codeIn (e .held) ∷ [
 
 -- ---- the premises can be met
 
--- one command of each code that is not of the seven; 38 with each value but 253
+-- each code that is not of the seven, those that take parameters with several values; 38 with each value but 253
 unfoldable pub harmless : List (List ℕ)
 harmless =
-    (1 ∷ 0 ∷ []) ∷ (2 ∷ 0 ∷ []) ∷ (3 ∷ 0 ∷ []) ∷ (4 ∷ 0 ∷ 0 ∷ []) ∷ (5 ∷ 7 ∷ 0 ∷ [])
+    (1 ∷ 0 ∷ []) ∷ (1 ∷ 1 ∷ []) ∷ (1 ∷ 253 ∷ []) ∷ (2 ∷ 0 ∷ []) ∷ (2 ∷ 31 ∷ []) ∷ (3 ∷ 0 ∷ []) ∷ (3 ∷ 255 ∷ [])
+    ∷ (4 ∷ 0 ∷ 0 ∷ []) ∷ (4 ∷ 253 ∷ 20 ∷ []) ∷ (5 ∷ 0 ∷ 0 ∷ []) ∷ (5 ∷ 3 ∷ 1 ∷ []) ∷ (5 ∷ 7 ∷ 0 ∷ [])
     ∷ (8 ∷ []) ∷ (9 ∷ []) ∷ (10 ∷ []) ∷ (11 ∷ []) ∷ (12 ∷ []) ∷ (15 ∷ []) ∷ (16 ∷ []) ∷ (17 ∷ []) ∷ (19 ∷ [])
     ∷ (21 ∷ []) ∷ (23 ∷ []) ∷ (26 ∷ []) ∷ (30 ∷ []) ∷ (31 ∷ []) ∷ (32 ∷ []) ∷ (33 ∷ []) ∷ (34 ∷ []) ∷ (35 ∷ [])
-    ∷ (37 ∷ 2 ∷ 65 ∷ []) ∷ (38 ∷ 254 ∷ []) ∷ (38 ∷ 251 ∷ []) ∷ (38 ∷ 252 ∷ []) ∷ (41 ∷ 5 ∷ 3 ∷ [])
+    ∷ (37 ∷ 0 ∷ 32 ∷ []) ∷ (37 ∷ 1 ∷ 66 ∷ []) ∷ (37 ∷ 253 ∷ 65 ∷ []) ∷ (38 ∷ 254 ∷ []) ∷ (38 ∷ 251 ∷ []) ∷ (38 ∷ 252 ∷ [])
+    ∷ (41 ∷ 5 ∷ 3 ∷ []) ∷ (41 ∷ 253 ∷ 253 ∷ [])
     ∷ []
 
--- The operator types 8 over the 7, deletes the 0, tabs to "mg ", sends. The host writes 75 and runs each of those. Of the seven it
--- tries two that draw an ERROR, and one after DONT 20: these are not executed.
+-- Of the seven, those that are not executed: a 20 and two 36 that draw ERROR 9, 12 and 11; a 20 in a call refused for its room of
+-- 113; a 20 left untaken, the 17 before it having been answered; a 20 after DONT 20.
+unfoldable pub attempts : List Call
+attempts =
+    command (20 ∷ 0 ∷ []) ∷ command (36 ∷ 32 ∷ 0 ∷ 0 ∷ 1 ∷ []) ∷ command (36 ∷ 8 ∷ 0 ∷ 1 ∷ 0 ∷ [])
+    ∷ host (subnegotiation 20 (20 ∷ [])) (replicate 113 0)
+    ∷ bytes (subnegotiation 20 (17 ∷ []) ++ subnegotiation 20 (20 ∷ []))
+    ∷ bytes (0xff ∷ 0xfe ∷ 20 ∷ []) ∷ command (20 ∷ []) ∷ []
+
+-- The operator types 8 over the 7, deletes the 0, tabs to "mg ", sends. The host writes 75, runs each of the harmless, and attempts.
 unfoldable pub busy : List Call
 busy =
-    press 56 ∷ press 127 ∷ press 9 ∷ press 13 ∷ bytes (characters "75")
-    ∷ (map (λ payload. command payload) harmless
-    ++ (command (20 ∷ 0 ∷ []) ∷ command (36 ∷ 32 ∷ 0 ∷ 0 ∷ 1 ∷ []) ∷ bytes (0xff ∷ 0xfe ∷ 20 ∷ []) ∷ command (20 ∷ []) ∷ []))
+    press 56 ∷ press 127 ∷ press 9 ∷ press 13 ∷ bytes (characters "75") ∷ (map (λ payload. command payload) harmless ++ attempts)
 
 abbrev begin : State
 begin = state (at 3 0) (screen four attrs)
@@ -110,15 +118,16 @@ pub record Met : Type 0 where
   pub replied :
       take 20 (spoken (answersOf begin busy))
       ≡ subnegotiation 20 (28 ∷ 3 ∷ 0 ∷ []) ++ (characters "8  " ++ (subnegotiation 20 (39 ∷ []) ++ characters "mg "))
-  pub executed : map (λ e. codeIn (e .held)) (executedOf begin busy) ≡ map (λ payload. getD payload 0 0) harmless
-  pub ends : (stateAfter begin busy) .screen .chars ≡ characters "WT AA #4UNIT    "
+  -- every command but the attempts, and the 17 among them
+  pub executed : map (λ e. codeIn (e .held)) (executedOf begin busy) ≡ map (λ payload. getD payload 0 0) harmless ++ (17 ∷ [])
+  pub ends : (stateAfter begin busy) .screen .chars ≡ characters "WT BAA#4UNIT    "
 
 differs : four ≡ five → ⊥
 unfolding four five characters
 differs e = let z : _≡_ {A = ℕ} 52 53 = ap (λ c. getD c 7 0) e in omega arith
 
 pub met : Met
-unfolding computing noneReaches harmless busy four five characters spoken
+unfolding computing noneReaches harmless attempts busy four five characters spoken
 met =
     record {
       premised = premised 3 0;
@@ -163,12 +172,6 @@ pub record Needed (r : Reach) : Type 0 where
   pub premised : Premised (at (r .x) (r .y)) attrs four five
   pub only : past (executedOf (first r) (r .calls)) ≡ r .code ∷ []
   pub broken : Untold (at (r .x) (r .y)) attrs four five (r .calls) → ⊥
-
-unfoldable same : List ℕ → List ℕ → Bool
-same [] [] = true
-same [] (y ∷ ys) = false
-same (x ∷ xs) [] = false
-same (x ∷ xs) (y ∷ ys) = eqb x y && same xs ys
 
 same-refl : (xs : List ℕ) → same xs xs ≡ true
 unfolding same

@@ -6,6 +6,8 @@ use borrow.Author.Tests.{not-true}
 use Rattle.screen.proofs.WordLaws.{either, not-both, and-left, and-right}
 use Rattle.rules.specs.Refusal.{Test, isTaken, verdict}
 use Rattle.rules.proofs.All.{All}
+-- the sentences of document 01 are checked first, so that a wrong rule is refused there
+use Rattle.rules.proofs.Causes.{nothing-else}
 
 -- the first test, and the others
 pub asked : (t : Test) (ts : List Test) → isTaken (t .otherwise) ≡ false → isTaken (verdict (t ∷ ts)) ≡ true

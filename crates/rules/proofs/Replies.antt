@@ -18,8 +18,8 @@ use Rattle.screen.proofs.FieldLaws.{end-gt}
 use Rattle.rules.specs.Session.{replyRoom, freshFrame}
 use Rattle.rules.specs.Effect.{Part, bytes, text, spelled, spelledAll}
 use Rattle.rules.specs.Subcommand.{fieldTexts, withoutFirst}
--- the worked cases are checked first, so that a wrong rule is refused there
-use Rattle.rules.proofs.Shut.{shut-holds}
+-- the sentences of document 01 are checked first, so that a wrong rule is refused there
+use Rattle.rules.proofs.Causes.{nothing-else}
 
 -- a reply that fits into the reply room of a screen m cells wide and n lines high
 abbrev pub InRoom : ℕ → ℕ → List Part → Type 0

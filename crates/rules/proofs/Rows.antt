@@ -1,5 +1,7 @@
 -- What holds of every row of the list holds of the row that a code finds there.
+use mathlib.Core.Path.{_≡_, sym}
 use Prim.Native.Nat.{ℕ}
+use borrow.Author.Tests.{eqb-true}
 use mathlib.Core.List.{List, [], _∷_}
 use lib.Dec.{eqb}
 use Rattle.screen.proofs.WordLaws.{either}
@@ -18,3 +20,13 @@ module _ (P : Row → Type 0) where
 
   pub in-list : All P rows → (code : ℕ) → IfListed P (rowOf code)
   in-list p code = all-rows rows p code
+
+-- and it is the row of that code
+its-code : (rs : List Row) (code : ℕ) → IfListed (λ r. r .code ≡ code) (rowIn rs code)
+unfolding rowIn
+its-code [] code = tt
+its-code (r ∷ rs) code =
+    either (IfListed (λ r. r .code ≡ code)) (eqb code (r .code)) (λ e. sym (eqb-true code (r .code) e)) (λ e. its-code rs code)
+
+pub found-code : (code : ℕ) (r : Row) → rowOf code ≡ listed r → r .code ≡ code
+found-code code r e = let found = its-code rows code in rw e at found

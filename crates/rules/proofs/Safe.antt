@@ -17,6 +17,8 @@ use Rattle.screen.proofs.EditLaws.{shifted-length, erased-length, erased-cell, 
 use Rattle.rules.specs.Effect.{Change, put, erase, shift, changed, changedAll, Part, bytes, text, spelled, spelledAll}
 use Rattle.rules.specs.Noninterference.{Alike, Kept}
 use Rattle.rules.proofs.All.{All}
+-- the sentences of document 01 are checked first, so that a wrong rule is refused there
+use Rattle.rules.proofs.Causes.{nothing-else}
 
 -- no cell of the range is protected
 abbrev pub Open : List ℕ → ℕ → ℕ → Type 0

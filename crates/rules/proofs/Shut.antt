@@ -1,49 +1,63 @@
--- Worked cases beside P1 to P10: what form F cannot show. One list, `shut`, and one theorem over it, `shut-holds`.
+-- Worked cases beside P1 to P10, by the headings of document 01: what form F cannot show. Each list has a theorem that names the
+-- case that fails, and `shut-holds` is over all of them.
 use mathlib.Core.Path.{_≡_, refl}
 use mathlib.Core.Bool.{Bool, true, false}
 use mathlib.Core.List.{List, [], _∷_, _++_, map}
-use Prim.Native.Nat.{ℕ}
+use Prim.Native.Nat.{ℕ, _*_}
 use Prim.Native.String.{String}
 use lib.ListN.{length, getD, replicate}
-use Rattle.telnet.specs.declared.Phase.the-variants.{Rest}
-use Rattle.rules.specs.declared.Held.{Held}
-use Rattle.rules.specs.Session.{State, noneHeld, session, switched, state}
-use Rattle.rules.specs.Call.{host, called}
+use Rattle.telnet.specs.declared.Phase.{Phase}
+use Rattle.telnet.specs.declared.Phase.the-variants.{Rest, Iac, Negotiating, Opening, OpeningIac, Inside, InsideIac}
+use Rattle.telnet.specs.declared.Verb.the-variants.{Do}
+use Rattle.rules.specs.Session.{State, screen}
+use Rattle.rules.specs.Refusal.{numberOf}
+use Rattle.rules.specs.Operation.{blank, opened}
+use Rattle.rules.specs.Call.{host, key}
 use Rattle.rules.specs.cases.Computing.{computing}
-use Rattle.rules.specs.cases.Vocabulary.{Case, Trial, Seen, characters, see, starting, hostTrial, keyTrial, seenIn, observed, expected}
+use Rattle.rules.specs.cases.Vocabulary.{Case, Trial, Passes, characters, case, opening, starting, at, modes, reading, showing, attributed, unchanged, see, hostTrial, keyTrial, refusedTrial, observed, expected, seeing}
+use Rattle.rules.proofs.Passing.{each-equal, all-pass}
 -- the worked forms are checked first
 use Rattle.rules.proofs.Worked.{worked}
 
 -- ---- starts: screens of 4 by 2 with DET on, whose least reply room is 58
-
-abbrev case : State → List Trial → Case
-case s trials = record { start = s; trials = trials }
 
 -- "ABcd" over "eFGH": a protected label, an unprotected field "cde" that crosses the line end, a protected rest
 abbrev label : Bool → ℕ → ℕ → State
 label suppressed x y = starting 4 2 suppressed (characters "ABcdeFGH") (replicate 2 8 ++ (replicate 3 0 ++ replicate 3 8)) x y
 
 -- it with protection in effect, and suppressed
-abbrev form : ℕ → ℕ → List Trial → Case
-form x y trials = case (label false x y) trials
+abbrev form : String → ℕ → ℕ → List Trial → Case
+form title x y trials = case title (label false x y) trials
 
-abbrev lifted : ℕ → ℕ → List Trial → Case
-lifted x y trials = case (label true x y) trials
+abbrev lifted : String → ℕ → ℕ → List Trial → Case
+lifted title x y trials = case title (label true x y) trials
 
 -- "abcd" over "eF1G": "ab" of no class and "cde" alphabetic side by side, one numeric cell "1" between protected ones
-abbrev sides : ℕ → ℕ → List Trial → Case
-sides x y trials = case (starting 4 2 false (characters "abcdeF1G") (replicate 2 0 ++ (replicate 3 16 ++ (8 ∷ 24 ∷ 8 ∷ []))) x y) trials
+abbrev sides : String → ℕ → ℕ → List Trial → Case
+sides title x y trials =
+    case title (starting 4 2 false (characters "abcdeF1G") (replicate 2 0 ++ (replicate 3 16 ++ (8 ∷ 24 ∷ 8 ∷ []))) x y) trials
 
 -- nothing protected; everything protected, by two unequal attribute bytes
-abbrev free : ℕ → ℕ → List Trial → Case
-free x y trials = case (starting 4 2 false (characters "abcdefgh") (replicate 8 0) x y) trials
+abbrev free : String → ℕ → ℕ → List Trial → Case
+free title x y trials = case title (starting 4 2 false (characters "abcdefgh") (replicate 8 0) x y) trials
 
-abbrev closed : ℕ → ℕ → List Trial → Case
-closed x y trials = case (starting 4 2 false (characters "ABCDEFGH") (replicate 4 8 ++ replicate 4 9) x y) trials
+abbrev closed : String → ℕ → ℕ → List Trial → Case
+closed title x y trials = case title (starting 4 2 false (characters "ABCDEFGH") (replicate 4 8 ++ replicate 4 9) x y) trials
 
 -- one cell with this attribute byte, whose least reply room is 9
 abbrev cell : ℕ → Bool → State
 cell attr suppressed = starting 1 1 suppressed (characters "?") (attr ∷ []) 0 0
+
+-- one line of this width; these characters, four attribute bytes, the cursor at x
+abbrev line : ℕ → List ℕ → ℕ → State
+line m chars x = starting m 1 false chars (replicate 4 0) x 0
+
+-- the label at (2,0), with DET off; with these bytes held
+abbrev off : State
+off = modes false false (label false 2 0)
+
+abbrev holds : List ℕ → State
+holds held = reading Rest held (label false 2 0)
 
 -- ---- trials: what is given; then the cursor, the characters, the reply
 
@@ -60,277 +74,433 @@ from x y text = det (28 ∷ x ∷ y ∷ []) ++ characters text
 abbrev error : ℕ → ℕ → List ℕ
 error code number = det (41 ∷ code ∷ number ∷ [])
 
--- host bytes, all taken; a command with its parameters
-abbrev reads : List ℕ → ℕ → ℕ → String → List ℕ → Trial
-reads input x y text reply = hostTrial 58 input (see 0 (length input) x y text reply)
-
-abbrev runs : List ℕ → ℕ → ℕ → String → List ℕ → Trial
-runs payload x y text reply = reads (det payload) x y text reply
-
--- a command without parameters that says nothing
-abbrev does : ℕ → ℕ → ℕ → String → Trial
-does code x y text = runs (code ∷ []) x y text []
-
--- commands that leave the label's screen as it is, with parameters and without
-abbrev asks : List ℕ → ℕ → ℕ → List ℕ → Trial
-asks payload x y reply = runs payload x y "ABcdeFGH" reply
-
-abbrev sends : ℕ → ℕ → ℕ → List ℕ → Trial
-sends code x y reply = asks (code ∷ []) x y reply
-
--- a key that is taken, and one that is refused
-abbrev press : ℕ → ℕ → ℕ → String → List ℕ → Trial
-press k x y text reply = keyTrial 58 k (see 0 1 x y text reply)
-
-abbrev types : String → ℕ → ℕ → String → Trial
-types k x y text = press (char k) x y text []
-
-abbrev refuses : ℕ → ℕ → ℕ → ℕ → ℕ → String → Trial
-refuses number room k x y text = keyTrial room k (see number 0 x y text [])
-
--- Each key in turn: written there, the cursor having nowhere to go; or refused, and this character stays.
-abbrev written : String → List Trial
-written keys = map (λ k. keyTrial 9 k (record { refusal = 0; taken = 1; x = 0; y = 0; chars = k ∷ []; replies = [] })) (characters keys)
-
-abbrev refused : String → String → List Trial
-refused stays keys = map (λ k. refuses 7 9 k 0 0 stays) (characters keys)
-
--- from (2,0): the number, the code, its parameters; nothing changes
-abbrev errs : ℕ → ℕ → List ℕ → Trial
-errs number code parameters = asks (code ∷ parameters) 2 0 (error code number)
-
 -- IAC, a verb (251 WILL, 252 WONT, 253 DO, 254 DONT), an option
 abbrev verb : ℕ → ℕ → List ℕ
 verb v option = 0xff ∷ v ∷ option ∷ []
 
--- host bytes that leave the cursor at (2,0), and the answer
-abbrev hears : List ℕ → List ℕ → Trial
-hears input reply = reads input 2 0 "ABcdeFGH" reply
+-- host bytes, all taken, and what they leave; those that change nothing
+abbrev reads : List ℕ → (State → State) → List ℕ → Trial
+reads input leaves reply = hostTrial 58 input (length input) leaves reply
 
-abbrev unchanged : ℕ → State → Seen
-unchanged number s =
-    let at = s .session .frame .cursor in
-    record { refusal = number; taken = 0; x = at .x .0; y = at .y .0; chars = s .screen .chars; replies = [] }
+abbrev hears : List ℕ → List ℕ → Trial
+hears input reply = reads input unchanged reply
+
+-- a command with its parameters that moves the cursor alone; one without parameters
+abbrev asks : List ℕ → ℕ → ℕ → List ℕ → Trial
+asks payload x y reply = reads (det payload) (at x y) reply
+
+abbrev sends : ℕ → ℕ → ℕ → List ℕ → Trial
+sends code x y reply = asks (code ∷ []) x y reply
+
+abbrev goes : ℕ → ℕ → ℕ → Trial
+goes code x y = sends code x y []
+
+-- a command without parameters that changes the characters
+abbrev does : ℕ → ℕ → ℕ → String → Trial
+does code x y text = reads (det (code ∷ [])) (see x y text) []
+
+-- 36 with its parameters, and the attribute bytes that it leaves; 38, and protection suppressed or not
+abbrev formats : List ℕ → List ℕ → Trial
+formats parameters attrs = reads (det (36 ∷ parameters)) (attributed attrs) []
+
+abbrev suppresses : ℕ → Bool → List ℕ → Trial
+suppresses value suppressed reply = reads (det (38 ∷ value ∷ [])) (modes true suppressed) reply
+
+-- a command that draws an ERROR and changes nothing: the number, the code, its parameters
+abbrev errs : ℕ → ℕ → List ℕ → Trial
+errs number code parameters = hears (det (code ∷ parameters)) (error code number)
+
+-- a key that is taken and moves the cursor, one that is typed, one that is refused
+abbrev press : ℕ → ℕ → ℕ → List ℕ → Trial
+press k x y reply = keyTrial 58 k (at x y) reply
+
+abbrev types : String → ℕ → ℕ → String → Trial
+types k x y text = keyTrial 58 (char k) (see x y text) []
+
+abbrev deletes : ℕ → ℕ → String → Trial
+deletes x y text = keyTrial 58 127 (see x y text) []
+
+abbrev refuses : ℕ → ℕ → ℕ → Trial
+refuses number room k = refusedTrial number room (key k)
+
+-- each key in turn: written in the one cell, the cursor having nowhere to go; or refused
+abbrev written : String → List Trial
+written keys = map (λ k. keyTrial 9 k (showing (k ∷ [])) []) (characters keys)
+
+abbrev refused : String → List Trial
+refused keys = map (λ k. refuses 7 9 k) (characters keys)
 
 -- with this room host bytes, and a key without meaning, are both refused with this number
-abbrev both : ℕ → ℕ → State → Case
-both number room s = case s (hostTrial room (characters "x") (unchanged number s) ∷ keyTrial room 1 (unchanged number s) ∷ [])
+abbrev both : String → ℕ → ℕ → State → Case
+both title number room s = case title s (refusedTrial number room (host (characters "x")) ∷ refuses number room 1 ∷ [])
 
 -- keys that are refused, one after the other: the number, the room, the key
-abbrev denied : State → List (ℕ × ℕ × ℕ) → Case
-denied s rows = case s (map (λ r. keyTrial (r .1) (r .2) (unchanged (r .0) s)) rows)
+abbrev denied : String → State → List (ℕ × ℕ × ℕ) → Case
+denied title s rows = case title s (map (λ r. refuses (r .0) (r .1) (r .2)) rows)
 
--- one line of this width; these characters, four attribute bytes, the cursor at x
-abbrev line : ℕ → List ℕ → ℕ → State
-line m chars x = starting m 1 false chars (replicate 4 0) x 0
+-- ---- classes
 
--- the label at (2,0) with so many bytes held, or with DET off
-abbrev holds : ℕ → State
-holds count =
-    let s = label false 2 0 in
-    state (session (s .session .frame) (record { phase = Rest; held = record { bytes = replicate 6 0; count = count } })) (s .screen)
+unfoldable pub classes : List Case
+classes =
+    case "class 2 takes letters and space" (cell 16 false) (written "AZaz " ++ refused "@[`{0!")
+    ∷ case "class 3 takes digits, space and three signs" (cell 24 false) (written "09+-. " ++ refused "/:,*A!")
+    ∷ case "bits 4 and 3 alone are the class" (cell 255 false) (written "5" ++ refused "A")
+    ∷ case "no class takes every character" (cell 0 false) (written "~!A0 ")
+    ∷ case "class 3 is not tested while suppressed" (cell 24 true) (written "A@")
+    ∷ case "class 2 is not tested while suppressed" (cell 16 true) (written "0")
+    ∷ case "a protected cell is typed on while suppressed" (cell 8 true) (written "A")
+    ∷ case "class is not tested for the host" (cell 24 false) (hostTrial 9 (characters "A") 1 (showing (characters "A")) [] ∷ refused "B")
+    ∷ []
 
-abbrev off : State
-off = let s = label false 2 0 in state (session (switched (s .session .frame) false false) (s .session .reader)) (s .screen)
+pub classes-pass : Passes classes
+unfolding computing seeing classes
+classes-pass = (tt, (tt, (tt, (tt, (tt, (tt, (tt, (tt, tt))))))))
+
+-- ---- cells and fields
+
+unfoldable pub fields : List Case
+fields =
+    form "23 and 26 send a field over the line end" 3 0 (sends 23 3 0 (from 2 0 "cde") ∷ sends 26 3 0 (from 3 0 "de") ∷ [])
+    ∷ form "23 and 26 from the field's second line" 0 1 (sends 23 0 1 (from 2 0 "cde") ∷ sends 26 0 1 (from 0 1 "e") ∷ [])
+    ∷ form "typing goes on, key 8 back; none, it stays" 3 0
+    (types "x" 0 1 "ABcxeFGH" ∷ types "y" 0 1 "ABcxyFGH" ∷ press 8 3 0 [] ∷ press 8 2 0 [] ∷ press 8 2 0 [] ∷ [])
+    ∷ form "key 8 goes over guarded cells" 3 1 (press 8 0 1 [] ∷ [])
+    ∷ form "host text on to a guarded cell is dropped" 3 0 (reads (characters "xyz") (see 1 1 "ABcxyFGH") [] ∷ [])
+    ∷ form "the edit span ends with the line" 2 0
+    (does 16 2 0 "ABd eFGH" ∷ does 15 2 0 "AB deFGH" ∷ deletes 2 0 "ABd eFGH" ∷ [])
+    ∷ form "15 in an edit span of one cell" 0 1 (does 15 0 1 "ABcd FGH" ∷ [])
+    ∷ form "16 in an edit span of one cell" 0 1 (does 16 0 1 "ABcd FGH" ∷ [])
+    ∷ sides "21 sends fields side by side apart" 3 1
+    (sends 21 0 0 (from 0 0 "ab" ++ (det (39 ∷ []) ++ (characters "cde" ++ (det (39 ∷ []) ++ characters "1")))) ∷ [])
+    ∷ sides "23 and 26 send one of two fields side by side" 1 0 (sends 23 1 0 (from 0 0 "ab") ∷ sends 26 1 0 (from 1 0 "b") ∷ [])
+    ∷ sides "23 and 31 at the second of them" 3 0 (sends 23 3 0 (from 2 0 "cde") ∷ does 31 3 0 "ab   F1G" ∷ [])
+    ∷ sides "the edit span ends with its field" 0 0 (does 16 0 0 "b cdeF1G" ∷ [])
+    ∷ sides "key 9 to the next field, else the first" 0 0 (press 9 2 0 [] ∷ press 9 2 1 [] ∷ press 9 0 0 [] ∷ [])
+    ∷ sides "19 to the last start before the cursor" 3 1 (goes 19 2 1 ∷ goes 19 2 0 ∷ goes 19 0 0 ∷ goes 19 0 0 ∷ [])
+    ∷ sides "typing goes on to a cell of another class" 1 0 (types "x" 2 0 "axcdeF1G" ∷ refuses 7 58 (char "1") ∷ [])
+    ∷ sides "typing goes on over a guarded cell" 0 1 (types "x" 2 1 "abcdxF1G" ∷ [])
+    ∷ []
+
+pub fields-pass : Passes fields
+unfolding computing seeing fields
+fields-pass = (tt, (tt, (tt, (tt, (tt, (tt, (tt, (tt, (tt, (tt, (tt, (tt, (tt, (tt, (tt, (tt, tt))))))))))))))))
+
+-- ---- guards and suppression
+
+unfoldable pub guards : List Case
+guards =
+    form "21 and key 13 send the unprotected fields" 3 1 (sends 21 2 0 (from 2 0 "cde") ∷ press 13 2 0 (from 2 0 "cde") ∷ [])
+    ∷ lifted "suppression does not change what 21 sends" 3 1 (sends 21 2 0 (from 2 0 "cde") ∷ press 13 2 0 (from 2 0 "cde") ∷ [])
+    ∷ closed "21 without fields sends its preface" 3 1 (sends 21 0 0 (from 0 0 "") ∷ [])
+    ∷ closed "keys 9, 8 and 13 without a field" 3 1 (press 9 3 1 [] ∷ press 8 3 1 [] ∷ press 13 0 0 (from 0 0 "") ∷ [])
+    ∷ closed "12 without an unprotected cell" 3 1 (goes 12 0 0 ∷ [])
+    ∷ closed "19 without a field" 3 1 (goes 19 0 0 ∷ [])
+    ∷ closed "35 without a field" 3 1 (goes 35 0 0 ∷ [])
+    ∷ form "23 and 26 on a guarded cell" 2 1 (sends 23 2 1 (from 2 1 "") ∷ sends 26 2 1 (from 2 1 "") ∷ [])
+    ∷ lifted "23 and 26 on a protected cell, suppressed" 2 1 (sends 23 2 1 (from 1 1 "FGH") ∷ sends 26 2 1 (from 2 1 "GH") ∷ [])
+    ∷ form "15 and 16 do nothing on a guarded cell" 1 0 (goes 15 1 0 ∷ goes 16 1 0 ∷ [])
+    ∷ lifted "15 shifts to the line's end while suppressed" 1 0 (does 15 1 0 "A BceFGH" ∷ [])
+    ∷ lifted "16 shifts to the line's end while suppressed" 1 0 (does 16 1 0 "Acd eFGH" ∷ [])
+    ∷ lifted "15 in the second line while suppressed" 0 1 (does 15 0 1 "ABcd eFG" ∷ [])
+    ∷ lifted "16 in the second line while suppressed" 0 1 (does 16 0 1 "ABcdFGH " ∷ [])
+    ∷ lifted "key 127 is as 16 while suppressed" 1 1 (deletes 1 1 "ABcdeGH " ∷ [])
+    ∷ lifted "keys while suppressed" 0 0
+    (types "x" 1 0 "xBcdeFGH" ∷ press 8 0 0 [] ∷ press 8 0 0 [] ∷ press 9 2 0 [] ∷ [])
+    ∷ lifted "typing stays at the screen's end" 3 1 (types "x" 3 1 "ABcdeFGx" ∷ [])
+    -- suppressed twice and ended twice, 23 after each; the two questions; other values
+    ∷ form "38 with 253, 254, 251, 252 and others" 0 0
+    (suppresses 253 true (det (38 ∷ 251 ∷ [])) ∷ suppresses 253 true [] ∷ sends 23 0 0 (from 0 0 "AB")
+    ∷ suppresses 254 false (det (38 ∷ 252 ∷ [])) ∷ suppresses 254 false [] ∷ sends 23 0 0 (from 0 0 "")
+    ∷ suppresses 251 false (det (38 ∷ 254 ∷ [])) ∷ suppresses 252 false []
+    ∷ errs 11 38 (250 ∷ []) ∷ hears (det (38 ∷ 255 ∷ 255 ∷ [])) (error 38 11) ∷ [])
+    ∷ lifted "38 with 251 and 252 while suppressed" 0 0 (suppresses 251 true (det (38 ∷ 254 ∷ [])) ∷ suppresses 252 true [] ∷ [])
+    ∷ []
+
+pub guards-pass : Passes guards
+unfolding computing seeing guards
+guards-pass = (tt, (tt, (tt, (tt, (tt, (tt, (tt, (tt, (tt, (tt, (tt, (tt, (tt, (tt, (tt, (tt, (tt, (tt, (tt, tt)))))))))))))))))))
+
+-- ---- moving and sending
+
+unfoldable pub moves : List Case
+moves =
+    form "12 goes to the first unprotected cell" 3 1 (goes 12 2 0 ∷ [])
+    ∷ lifted "12 goes to (0,0) while suppressed" 3 1 (goes 12 0 0 ∷ [])
+    ∷ form "19 passes over protected fields" 3 1 (goes 19 2 0 ∷ [])
+    ∷ lifted "19 goes to (0,0) while suppressed" 3 1 (goes 19 0 0 ∷ [])
+    ∷ form "20 sends the screen, cursor (0,0)" 3 1 (sends 20 0 0 (from 0 0 "ABcdeFGH") ∷ [])
+    ∷ form "22 sends the line, cursor to the next line" 1 0 (sends 22 0 1 (from 0 0 "ABcd") ∷ [])
+    ∷ form "22 on the last line, cursor to its start" 2 1 (sends 22 0 1 (from 0 1 "eFGH") ∷ [])
+    ∷ lifted "22 goes to the next line while suppressed" 1 0 (sends 22 0 1 (from 0 0 "ABcd") ∷ [])
+    ∷ form "24 and 25 send the rest of screen and line" 1 0 (sends 24 1 0 (from 1 0 "BcdeFGH") ∷ sends 25 1 0 (from 1 0 "Bcd") ∷ [])
+    ∷ form "5 is limited in x and in y" 2 0 (asks (5 ∷ 4 ∷ 0 ∷ []) 3 0 (error 5 3) ∷ asks (5 ∷ 1 ∷ 2 ∷ []) 1 1 (error 5 3) ∷ [])
+    ∷ form "5 limited in both draws one ERROR 3" 2 0 (asks (5 ∷ 255 ∷ 255 ∷ 9 ∷ []) 3 1 (error 5 3) ∷ [])
+    ∷ form "8 up, 9 down, 10 left, 11 right" 3 0 (goes 8 3 0 ∷ goes 11 3 0 ∷ goes 9 3 1 ∷ goes 9 3 1 ∷ goes 10 2 1 ∷ [])
+    ∷ form "steps back, and 17 answers 18 x y" 0 1 (goes 10 0 1 ∷ goes 8 0 0 ∷ goes 11 1 0 ∷ sends 17 1 0 (det (18 ∷ 1 ∷ 0 ∷ [])) ∷ [])
+    ∷ form "1 to 4 answer the terminal's own map" 2 0
+    (hears (det (1 ∷ 0 ∷ [])) (det (1 ∷ 54 ∷ [])) ∷ hears (det (2 ∷ 0 ∷ [])) (det (2 ∷ 31 ∷ []))
+    ∷ hears (det (3 ∷ 0 ∷ [])) (det (3 ∷ 63 ∷ [])) ∷ hears (det (4 ∷ 0 ∷ 0 ∷ [])) (det (4 ∷ 144 ∷ 121 ∷ [])) ∷ [])
+    ∷ form "41 has no answer and no effect" 2 0 (hears (det (41 ∷ 5 ∷ 3 ∷ [])) [] ∷ [])
+    ∷ lifted "41 has no effect while suppressed" 2 0 (hears (det (41 ∷ 5 ∷ 3 ∷ [])) [] ∷ [])
+    ∷ form "keys 128 and 143 send FN 1 and 16" 2 0 (press 128 2 0 (det (40 ∷ 1 ∷ [])) ∷ press 143 2 0 (det (40 ∷ 16 ∷ [])) ∷ [])
+    ∷ []
+
+pub moves-pass : Passes moves
+unfolding computing seeing moves
+moves-pass = (tt, (tt, (tt, (tt, (tt, (tt, (tt, (tt, (tt, (tt, (tt, (tt, (tt, (tt, (tt, (tt, (tt, tt)))))))))))))))))
+
+-- ---- erasing, formatting, repeating
+
+-- 29: all spaces, attributes 0, cursor (0,0)
+abbrev erasesAll : Trial
+erasesAll = reads (det (29 ∷ [])) (λ s. see 0 0 "        " (attributed (replicate 8 0) s)) []
+
+unfoldable pub edits : List Case
+edits =
+    form "30 erases the line where it is not guarded" 1 0 (does 30 1 0 "AB  eFGH" ∷ [])
+    ∷ lifted "30 erases the line while suppressed" 1 0 (does 30 1 0 "    eFGH" ∷ [])
+    ∷ form "30 in the second line" 3 1 (does 30 3 1 "ABcd FGH" ∷ [])
+    ∷ form "31 erases the field" 0 1 (does 31 0 1 "AB   FGH" ∷ [])
+    ∷ lifted "31 erases a protected field while suppressed" 2 1 (does 31 2 1 "ABcde   " ∷ [])
+    ∷ form "31 and 34 in a guarded field" 2 1 (goes 31 2 1 ∷ goes 34 2 1 ∷ [])
+    ∷ form "32 erases the rest of the screen" 3 0 (does 32 3 0 "ABc  FGH" ∷ [])
+    ∷ lifted "32 while suppressed" 3 0 (does 32 3 0 "ABc     " ∷ [])
+    ∷ form "33 erases the rest of the line" 1 0 (does 33 1 0 "AB  eFGH" ∷ [])
+    ∷ lifted "33 while suppressed" 1 0 (does 33 1 0 "A   eFGH" ∷ [])
+    ∷ form "34 erases the rest of the field" 3 0 (does 34 3 0 "ABc  FGH" ∷ [])
+    ∷ lifted "34 while suppressed" 2 1 (does 34 2 1 "ABcdeF  " ∷ [])
+    ∷ form "35 erases all unprotected cells" 3 1 (does 35 2 0 "AB   FGH" ∷ [])
+    ∷ lifted "35 while suppressed" 3 1 (does 35 2 0 "AB   FGH" ∷ [])
+    ∷ form "29 leaves spaces, attributes 0, cursor (0,0)" 3 1 (erasesAll ∷ sends 21 0 0 (from 0 0 "        ") ∷ [])
+    ∷ lifted "29 leaves protection suppressed" 3 1 (erasesAll ∷ [])
+    ∷ free "37 writes as host data, at the last cell too" 2 1
+    (reads (det (37 ∷ 3 ∷ 0x78 ∷ [])) (see 3 1 "abcdefxx") [] ∷ reads (det (37 ∷ 1 ∷ 0x79 ∷ [])) (see 3 1 "abcdefxy") [] ∷ [])
+    ∷ form "37 no times; ERROR 11" 2 0
+    (hears (det (37 ∷ 0 ∷ 0x78 ∷ [])) [] ∷ errs 11 37 (0 ∷ 31 ∷ []) ∷ errs 11 37 (1 ∷ 127 ∷ []) ∷ [])
+    ∷ []
+
+pub edits-pass : Passes edits
+unfolding computing seeing edits
+edits-pass = (tt, (tt, (tt, (tt, (tt, (tt, (tt, (tt, (tt, (tt, (tt, (tt, (tt, (tt, (tt, (tt, (tt, (tt, tt))))))))))))))))))
+
+-- ---- FORMAT DATA
+
+-- a screen of 256 cells, whose least reply room is 1794
+abbrev wide : State
+wide = starting 128 2 false (replicate 256 0x2e) (replicate 256 0) 0 0
+
+unfoldable pub formatting : List Case
+formatting =
+    form "36 sets attributes from the cursor" 2 0
+    (formats (0 ∷ 0 ∷ 0 ∷ 6 ∷ []) (replicate 2 8 ++ replicate 6 0) ∷ sends 23 2 0 (from 2 0 "cdeFGH") ∷ [])
+    ∷ form "36 of count 0 does nothing" 2 0 (hears (det (36 ∷ 8 ∷ 0 ∷ 0 ∷ 0 ∷ [])) [] ∷ sends 23 2 0 (from 2 0 "cde") ∷ [])
+    ∷ form "36 writes its first map byte" 2 0
+    (formats (31 ∷ 0 ∷ 0 ∷ 1 ∷ []) (8 ∷ 8 ∷ 31 ∷ 0 ∷ 0 ∷ replicate 3 8) ∷ sends 23 2 0 (from 2 0 "c") ∷ [])
+    ∷ lifted "36 leaves protection suppressed" 2 0 (formats (16 ∷ 0 ∷ 0 ∷ 2 ∷ []) (8 ∷ 8 ∷ 16 ∷ 16 ∷ 0 ∷ replicate 3 8) ∷ [])
+    -- where six cells remain
+    ∷ form "36: ERROR 12, then ERROR 11" 2 0
+    (errs 12 36 (32 ∷ 0 ∷ 0 ∷ 7 ∷ []) ∷ errs 12 36 (0 ∷ 1 ∷ 0 ∷ 7 ∷ []) ∷ errs 12 36 (128 ∷ 0 ∷ 0 ∷ 0 ∷ [])
+    ∷ errs 11 36 (0 ∷ 0 ∷ 0 ∷ 7 ∷ []) ∷ errs 11 36 (0 ∷ 0 ∷ 1 ∷ 0 ∷ []) ∷ [])
+    ∷ case "36: the count's high byte counts 256" wide
+    (hostTrial 1794 (det (36 ∷ 9 ∷ 0 ∷ 1 ∷ 0 ∷ [])) 10 (attributed (replicate 256 9)) [] ∷ [])
+    ∷ case "36: one more than 256 where 256 remain" wide (hostTrial 1794 (det (36 ∷ 9 ∷ 0 ∷ 1 ∷ 1 ∷ [])) 10 unchanged (error 36 11) ∷ [])
+    ∷ []
+
+pub formatting-pass : Passes formatting
+unfolding computing seeing formatting
+formatting-pass = (tt, (tt, (tt, (tt, (tt, (tt, (tt, tt)))))))
+
+-- ---- ERROR
+
+unfoldable pub errors : List Case
+errors =
+    form "too few parameters 10, too many 9" 2 0
+    (errs 10 5 [] ∷ errs 10 5 (1 ∷ []) ∷ errs 9 5 (replicate 3 1) ∷ errs 9 5 (replicate 10 1) ∷ [])
+    ∷ form "too many parameters where none are taken" 2 0 (errs 9 11 (1 ∷ []) ∷ errs 9 11 (replicate 8 1) ∷ [])
+    ∷ form "parameter count goes before values" 2 0
+    (errs 10 36 (replicate 3 32) ∷ errs 9 36 (replicate 5 32) ∷ errs 9 36 (replicate 12 32) ∷ [])
+    ∷ form "all other codes draw ERROR 2" 2 0 (map (λ code. errs 2 code []) (0 ∷ 6 ∷ 7 ∷ 13 ∷ 14 ∷ 18 ∷ 27 ∷ 28 ∷ 39 ∷ 40 ∷ 42 ∷ 254 ∷ []))
+    ∷ form "an unknown code, whatever follows it" 2 0
+    (errs 2 6 (replicate 8 1) ∷ hears (det (255 ∷ 255 ∷ [])) (det (41 ∷ 255 ∷ 255 ∷ 2 ∷ [])) ∷ [])
+    ∷ lifted "ERROR leaves protection suppressed" 2 0 (errs 2 6 [] ∷ errs 9 11 (1 ∷ []) ∷ errs 11 37 (0 ∷ 31 ∷ []) ∷ [])
+    ∷ []
+
+pub errors-pass : Passes errors
+unfolding computing seeing errors
+errors-pass = (tt, (tt, (tt, (tt, (tt, (tt, tt))))))
+
+-- ---- Telnet bytes
+
+unfoldable pub telnet : List Case
+telnet =
+    form "IAC SB in a subnegotiation begins anew" 2 0
+    (reads (0xff ∷ 0xfa ∷ 0x14 ∷ 17 ∷ det (11 ∷ [])) (at 3 0) [] ∷ [])
+    ∷ form "DO in a subnegotiation throws it away" 2 0
+    (hears (0xff ∷ 0xfa ∷ 0x14 ∷ 11 ∷ verb 253 3) (verb 252 3) ∷ hears (0xff ∷ 0xf0 ∷ []) []
+    ∷ reads (characters "x") (see 3 0 "ABxdeFGH") [] ∷ [])
+    ∷ form "so does a command that does nothing" 2 0 (hears (0xff ∷ 0xfa ∷ 0x14 ∷ 11 ∷ 0xff ∷ 0xf1 ∷ 0xff ∷ 0xf0 ∷ []) [] ∷ [])
+    ∷ form "option 255 is single, in our answers too" 2 0
+    (hears (verb 253 255) (verb 252 255) ∷ hears (verb 251 255) (verb 254 255) ∷ reads (characters "x") (see 3 0 "ABxdeFGH") [] ∷ [])
+    ∷ form "other subnegotiations are ignored" 2 0
+    (hears (0xff ∷ 0xfa ∷ 21 ∷ 11 ∷ 0xff ∷ 0xf0 ∷ []) [] ∷ hears (0xff ∷ 0xfa ∷ 0xff ∷ 0xff ∷ 11 ∷ 0xff ∷ 0xf0 ∷ []) []
+    ∷ hears (0xff ∷ 0xfa ∷ 0xff ∷ 0xf0 ∷ []) [] ∷ [])
+    ∷ form "a command cut in two with a key between" 2 0
+    (reads (0xff ∷ 0xfa ∷ 0x14 ∷ 5 ∷ []) (reading (Inside 20) (5 ∷ [])) [] ∷ types "x" 3 0 "ABxdeFGH"
+    ∷ reads (1 ∷ 1 ∷ 0xff ∷ 0xf0 ∷ []) (λ s. reading Rest [] (at 1 1 s)) [] ∷ [])
+    ∷ form "a command cut after each IAC" 2 0
+    (reads (0xff ∷ []) (reading Iac []) [] ∷ reads (0xfa ∷ 0x14 ∷ 11 ∷ 0xff ∷ []) (reading (InsideIac 20) (11 ∷ [])) []
+    ∷ reads (0xf0 ∷ []) (λ s. reading Rest [] (at 3 0 s)) [] ∷ [])
+    ∷ form "cut after IAC SB and after a verb" 2 0
+    (reads (0xff ∷ 0xfa ∷ []) (reading Opening []) [] ∷ reads (0xff ∷ []) (reading OpeningIac []) []
+    ∷ reads (0xf0 ∷ 0xff ∷ 253 ∷ []) (reading (Negotiating Do) []) [] ∷ reads (3 ∷ []) (reading Rest []) (verb 252 3) ∷ [])
+    ∷ form "six bytes are held, the count stops there" 2 0
+    (reads (0xff ∷ 0xfa ∷ 0x14 ∷ 1 ∷ 2 ∷ replicate 9 3) (reading (Inside 20) (1 ∷ 2 ∷ replicate 4 3)) [] ∷ [])
+    ∷ form "another option's bytes are held" 2 0 (reads (0xff ∷ 0xfa ∷ 21 ∷ 7 ∷ 8 ∷ []) (reading (Inside 21) (7 ∷ 8 ∷ [])) [] ∷ [])
+    ∷ case "bytes are held while DET is off" off
+    (reads (0xff ∷ 0xfa ∷ 0x14 ∷ 7 ∷ 0xff ∷ 0xff ∷ []) (reading (Inside 20) (7 ∷ 255 ∷ [])) [] ∷ [])
+    ∷ case "held bytes 0 again at the option byte" (holds (1 ∷ 2 ∷ 3 ∷ []))
+    (reads (0xff ∷ 0xfa ∷ 0x14 ∷ []) (reading (Inside 20) []) [] ∷ [])
+    ∷ case "held bytes 0 again after IAC SB IAC SE" (holds (1 ∷ 2 ∷ 3 ∷ []))
+    (reads (0xff ∷ 0xfa ∷ 0xff ∷ 0xf0 ∷ []) (reading Rest []) [] ∷ [])
+    ∷ case "held bytes 0 again after one thrown away" (holds (1 ∷ 2 ∷ 3 ∷ []))
+    (reads (0xff ∷ 0xfa ∷ 0xff ∷ 0xf1 ∷ []) (reading Rest []) [] ∷ [])
+    ∷ case "held bytes 0 again after another option's" off (hears (0xff ∷ 0xfa ∷ 21 ∷ 7 ∷ 0xff ∷ 0xf0 ∷ []) [] ∷ [])
+    -- two questions, each answered with 8 bytes: with room 65 there are 57 left after the first, one too few; with 66 there are 58
+    ∷ form "not taken with 7C + 1 bytes free" 2 0 (hostTrial 65 (det (17 ∷ []) ++ det (17 ∷ [])) 6 unchanged (det (18 ∷ 2 ∷ 0 ∷ [])) ∷ [])
+    ∷ form "taken with 7C + 2 bytes free" 2 0
+    (hostTrial 66 (det (17 ∷ []) ++ det (17 ∷ [])) 12 unchanged (det (18 ∷ 2 ∷ 0 ∷ []) ++ det (18 ∷ 2 ∷ 0 ∷ [])) ∷ [])
+    ∷ []
+
+pub telnet-pass : Passes telnet
+unfolding computing seeing telnet
+telnet-pass = (tt, (tt, (tt, (tt, (tt, (tt, (tt, (tt, (tt, (tt, (tt, (tt, (tt, (tt, (tt, (tt, (tt, tt)))))))))))))))))
+
+-- ---- negotiation and host data
+
+unfoldable pub data-cases : List Case
+data-cases =
+    lifted "DONT 20 while on, DO 20 while off" 0 0
+    (reads (verb 254 20) (modes false false) (verb 252 20) ∷ hears (verb 254 20) [] ∷ hears (characters "x") [] ∷ hears (det (11 ∷ [])) []
+    ∷ reads (verb 253 20) (modes true false) (verb 251 20) ∷ hears (verb 253 20) [] ∷ sends 23 0 0 (from 0 0 "") ∷ [])
+    ∷ form "WILL is answered DONT, WONT not" 2 0
+    (hears (verb 251 20) (verb 254 20) ∷ hears (verb 252 20) [] ∷ hears (verb 254 3) [] ∷ [])
+    ∷ case "DO 3 and WILL 20 while DET is off" off (hears (verb 253 3) (verb 252 3) ∷ hears (verb 251 20) (verb 254 20) ∷ [])
+    -- a forged session: DET off and protection suppressed
+    ∷ case "DO 20 while off leaves suppression" (modes false true (label true 2 0))
+    (reads (verb 253 20) (modes true true) (verb 251 20) ∷ [])
+    ∷ case "DONT 20 while off does nothing" (modes false true (label true 2 0)) (hears (verb 254 20) [] ∷ [])
+    ∷ form "BS and LF stop at the edge" 2 0
+    (reads (8 ∷ []) (at 1 0) [] ∷ reads (10 ∷ []) (at 1 1) [] ∷ reads (10 ∷ 8 ∷ 8 ∷ []) (at 0 1) [] ∷ [])
+    ∷ form "CR sets x to 0" 3 1 (reads (13 ∷ []) (at 0 1) [] ∷ [])
+    ∷ form "other data and IAC commands do nothing" 2 0
+    (hears (0 ∷ 7 ∷ 9 ∷ 31 ∷ 127 ∷ 128 ∷ 254 ∷ 0xff ∷ 0xff ∷ []) [] ∷ hears (0xff ∷ 0x41 ∷ 0xff ∷ 0xf1 ∷ []) [] ∷ [])
+    ∷ free "at the last cell the cursor stays" 2 1 (reads (characters "xyz") (see 3 1 "abcdefxz") [] ∷ [])
+    ∷ case "host text while DET is off" off (reads (characters "x") (see 3 0 "ABxdeFGH") [] ∷ [])
+    ∷ []
+
+pub data-pass : Passes data-cases
+unfolding computing seeing data-cases
+data-pass = (tt, (tt, (tt, (tt, (tt, (tt, (tt, (tt, (tt, (tt, tt))))))))))
+
+-- ---- refusals
+
+-- The order is 1, 2, 3, 4, 5, 9, 8, 6, 7. Faults 1 to 5 at once, the key's 9 too: no width, four cells where none belong, a character
+-- 31, the cursor past the end, room 1. Then without the first of them, and so on down to 9 alone, with the least room. No two of the
+-- last four come together: a key without meaning (9) is no send key (8), a send key is neither typed nor delete (6), a guarded cell
+-- (6) has no class (7). Each comes with 5, and then alone.
+unfoldable pub order : List Case
+order =
+    both "refusal 1 goes before 2 to 5 and 9" 1 1 (line 0 (31 ∷ characters "bcd") 4)
+    ∷ both "refusal 2 goes before 3 to 5 and 9" 2 1 (line 5 (31 ∷ characters "bcd") 5)
+    ∷ both "refusal 3 goes before 4, 5 and 9" 3 1 (line 4 (31 ∷ characters "bcd") 4)
+    ∷ both "refusal 4 goes before 5 and 9" 4 1 (line 4 (characters "abcd") 4)
+    ∷ both "refusal 5 goes before 9" 5 29 (line 4 (characters "abcd") 0)
+    ∷ denied "refusal 9, a key with no meaning" (line 4 (characters "abcd") 0)
+    (map (λ k. (9, 30, k)) (0 ∷ 1 ∷ 7 ∷ 10 ∷ 12 ∷ 14 ∷ 31 ∷ 144 ∷ 255 ∷ []))
+    ∷ denied "refusal 8, send or function key, DET off" off
+    ((5, 57, 13) ∷ (5, 57, 128) ∷ (8, 58, 13) ∷ (8, 58, 128) ∷ (8, 58, 136) ∷ (8, 58, 143) ∷ (9, 58, 144) ∷ [])
+    ∷ denied "refusal 6, typed or delete on a guarded cell" (label false 1 0)
+    ((5, 57, char "x") ∷ (5, 57, 127) ∷ (6, 58, char "x") ∷ (6, 58, 127) ∷ [])
+    ∷ denied "refusal 7, typed not of the cell's class" (cell 24 false) ((5, 8, char "x") ∷ (7, 9, char "x") ∷ [])
+    ∷ []
+
+pub order-pass : Passes order
+unfolding computing seeing order
+order-pass = (tt, (tt, (tt, (tt, (tt, (tt, (tt, (tt, (tt, tt)))))))))
+
+unfoldable pub refusals : List Case
+refusals =
+    case "without DET the other keys are taken" off
+    (types "x" 3 0 "ABxdeFGH" ∷ deletes 3 0 "ABx eFGH" ∷ press 8 2 0 [] ∷ press 9 2 0 [] ∷ [])
+    ∷ both "refusal 1, too wide" 1 933 (starting 133 1 false (replicate 133 32) (replicate 133 0) 0 0)
+    ∷ both "refusal 1, too high" 1 457 (starting 1 65 false (replicate 65 32) (replicate 65 0) 0 0)
+    ∷ both "refusal 1, no line" 1 2 (starting 4 0 false [] [] 0 0)
+    ∷ both "refusal 2, the character buffer" 2 30 (line 4 (characters "abc") 0)
+    ∷ both "refusal 2, the attribute buffer" 2 23 (line 3 (characters "abc") 0)
+    ∷ both "refusal 3, a character 31" 3 30 (line 4 (31 ∷ characters "bcd") 0)
+    ∷ both "refusal 3, a character 127" 3 30 (line 4 (characters "abc" ++ (127 ∷ [])) 0)
+    ∷ case "characters 32 and 126 are taken" (line 4 (characters "a ~d") 0) (hostTrial 30 (characters "x") 1 (see 1 0 "x ~d") [] ∷ [])
+    ∷ both "refusal 4, the cursor off the screen in x" 4 58 (label false 4 0)
+    ∷ both "refusal 4, the cursor off the screen in y" 4 58 (label false 0 2)
+    ∷ both "refusal 4, more than six bytes held" 4 58 (holds (replicate 7 0))
+    ∷ case "a key with six bytes held leaves the reader" (holds (replicate 6 1)) (types "x" 3 0 "ABxdeFGH" ∷ [])
+    ∷ case "bytes held at rest are not the next command's" (holds (replicate 6 1))
+    (reads (det (11 ∷ [])) (λ s. reading Rest [] (at 3 0 s)) [] ∷ [])
+    ∷ form "reply room 58 accepted, 57 refused 5" 2 0
+    (hears (det (17 ∷ [])) (det (18 ∷ 2 ∷ 0 ∷ [])) ∷ refusedTrial 5 57 (host (det (17 ∷ []))) ∷ [])
+    ∷ []
+
+pub refusals-pass : Passes refusals
+unfolding computing seeing refusals
+refusals-pass = (tt, (tt, (tt, (tt, (tt, (tt, (tt, (tt, (tt, (tt, (tt, (tt, (tt, (tt, (tt, tt)))))))))))))))
+
+-- ---- open
+
+-- What it leaves: DET off, protection in effect, cursor (0,0), nothing half read or held. Lent are characters 200 and attribute bytes 9.
+abbrev begun : ℕ → ℕ → List ℕ → List ℕ → State
+begun m n chars attrs = modes false false (starting m n false chars attrs 0 0)
+
+abbrev opens : String → ℕ → ℕ → Case
+opens title m n =
+    let cells = n * m in
+    opening title m n (screen (replicate cells 200) (replicate cells 9)) 0 (begun m n (replicate cells 32) (replicate cells 0))
+
+-- refused, with so many cells lent: the buffers as they came, and a session with M and N 0
+abbrev declines : String → ℕ → ℕ → ℕ → ℕ → ℕ → Case
+declines title number m n chars attrs =
+    opening title m n (screen (replicate chars 200) (replicate attrs 9)) number (begun 0 0 (replicate chars 200) (replicate attrs 9))
+
+unfoldable pub opened-cases : List Case
+opened-cases =
+    opens "open leaves a blank screen, DET off" 4 2
+    ∷ opens "open of 1 by 1" 1 1 ∷ opens "M 132 accepted" 132 1 ∷ opens "N 64 accepted" 1 64
+    ∷ declines "M 133 refused 1" 1 133 1 133 133 ∷ declines "N 65 refused 1" 1 1 65 65 65
+    ∷ declines "M 0 refused 1" 1 0 2 0 0 ∷ declines "N 0 refused 1" 1 4 0 0 0
+    ∷ declines "open: character buffer not C long, refused 2" 2 4 2 7 8
+    ∷ declines "open: attribute buffer not C long, refused 2" 2 4 2 8 9
+    ∷ declines "open: refusal 1 goes before 2" 1 133 2 3 4
+    ∷ []
+
+pub opened-pass : Passes opened-cases
+unfolding computing seeing opened-cases
+opened-pass = (tt, (tt, (tt, (tt, (tt, (tt, (tt, (tt, (tt, (tt, (tt, tt)))))))))))
+
+-- the largest screen
+pub largest : numberOf ((opened 132 64 (blank 8448)) .answer .refusal) ≡ 0
+unfolding computing
+largest = refl
+
+-- ---- all of them
 
 unfoldable pub shut : List Case
 shut =
-    -- ---- classes
-    -- alphabetic: letters and space
-    case (cell 16 false) (written "AZaz " ++ refused " " "@[`{0!")
-    -- numeric: digits, space and three signs; the other bits of the attribute byte do not matter
-    ∷ case (cell 24 false) (written "09+-. " ++ refused " " "/:,*A!") ∷ case (cell 255 false) (written "5" ++ refused "5" "A")
-    -- no class: all; and all while suppressed
-    ∷ case (cell 0 false) (written "~!A0 ")
-    ∷ case (cell 24 true) (written "A@") ∷ case (cell 16 true) (written "0") ∷ case (cell 8 true) (written "A")
-    -- the host's letter is written on a numeric cell, where a typed one is refused
-    ∷ case (cell 24 false) (hostTrial 9 (characters "A") (see 0 1 0 0 "A" []) ∷ refused "A" "B")
-    -- ---- a field across a line end, and fields side by side
-    -- 23 sends the whole field from either line, 26 the rest of it
-    ∷ form 3 0 (sends 23 3 0 (from 2 0 "cde") ∷ sends 26 3 0 (from 3 0 "de") ∷ [])
-    ∷ form 0 1 (sends 23 0 1 (from 2 0 "cde") ∷ sends 26 0 1 (from 0 1 "e") ∷ [])
-    -- typing goes on in the next line and stays at the last open cell; key 8 goes back and stays at the first
-    ∷ form 3 0
-    (types "x" 0 1 "ABcxeFGH" ∷ types "y" 0 1 "ABcxyFGH"
-    ∷ press 8 3 0 "ABcxyFGH" [] ∷ press 8 2 0 "ABcxyFGH" [] ∷ press 8 2 0 "ABcxyFGH" [] ∷ [])
-    ∷ form 3 1 (press 8 0 1 "ABcdeFGH" [] ∷ [])
-    -- the host goes on to the guarded cell, where its third character is dropped
-    ∷ form 3 0 (reads (characters "xyz") 1 1 "ABcxyFGH" [] ∷ [])
-    -- the edit span ends with the line, though the field goes on; in the next line it is one cell
-    ∷ form 2 0 (does 16 2 0 "ABd eFGH" ∷ does 15 2 0 "AB deFGH" ∷ press 127 2 0 "ABd eFGH" [] ∷ [])
-    ∷ form 0 1 (does 15 0 1 "ABcd FGH" ∷ [])
-    ∷ form 0 1 (does 16 0 1 "ABcd FGH" ∷ [])
-    -- fields side by side are sent apart, and each alone
-    ∷ sides 3 1
-    (runs (21 ∷ []) 0 0 "abcdeF1G" (from 0 0 "ab" ++ (det (39 ∷ []) ++ (characters "cde" ++ (det (39 ∷ []) ++ characters "1")))) ∷ [])
-    ∷ sides 1 0 (runs (23 ∷ []) 1 0 "abcdeF1G" (from 0 0 "ab") ∷ runs (26 ∷ []) 1 0 "abcdeF1G" (from 1 0 "b") ∷ [])
-    ∷ sides 3 0 (runs (23 ∷ []) 3 0 "abcdeF1G" (from 2 0 "cde") ∷ does 31 3 0 "ab   F1G" ∷ [])
-    ∷ sides 0 0 (does 16 0 0 "b cdeF1G" ∷ [])
-    -- tab goes from one to the next, from the last to the first; reverse tab goes back, and stays at (0,0)
-    ∷ sides 0 0 (press 9 2 0 "abcdeF1G" [] ∷ press 9 2 1 "abcdeF1G" [] ∷ press 9 0 0 "abcdeF1G" [] ∷ [])
-    ∷ sides 3 1 (does 19 2 1 "abcdeF1G" ∷ does 19 2 0 "abcdeF1G" ∷ does 19 0 0 "abcdeF1G" ∷ does 19 0 0 "abcdeF1G" ∷ [])
-    -- typing goes on from one to the next, whose class then counts, and over a guarded cell
-    ∷ sides 1 0 (types "x" 2 0 "axcdeF1G" ∷ refuses 7 58 (char "1") 2 0 "axcdeF1G" ∷ [])
-    ∷ sides 0 1 (types "x" 2 1 "abcdxF1G" ∷ [])
-    -- ---- guarded cells and suppression
-    -- 21 and key 13 send the same fields whether protection is suppressed or not
-    ∷ form 3 1 (sends 21 2 0 (from 2 0 "cde") ∷ press 13 2 0 "ABcdeFGH" (from 2 0 "cde") ∷ [])
-    ∷ lifted 3 1 (sends 21 2 0 (from 2 0 "cde") ∷ press 13 2 0 "ABcdeFGH" (from 2 0 "cde") ∷ [])
-    -- without an unprotected field they send the preface alone, and there is nowhere to go
-    ∷ closed 3 1 (runs (21 ∷ []) 0 0 "ABCDEFGH" (from 0 0 "") ∷ [])
-    ∷ closed 3 1 (press 9 3 1 "ABCDEFGH" [] ∷ press 8 3 1 "ABCDEFGH" [] ∷ press 13 0 0 "ABCDEFGH" (from 0 0 "") ∷ [])
-    ∷ closed 3 1 (does 12 0 0 "ABCDEFGH" ∷ []) ∷ closed 3 1 (does 19 0 0 "ABCDEFGH" ∷ []) ∷ closed 3 1 (does 35 0 0 "ABCDEFGH" ∷ [])
-    -- on a guarded cell 23 and 26 send the cursor and nothing after it; while suppressed, the protected field
-    ∷ form 2 1 (sends 23 2 1 (from 2 1 "") ∷ sends 26 2 1 (from 2 1 "") ∷ [])
-    ∷ lifted 2 1 (sends 23 2 1 (from 1 1 "FGH") ∷ sends 26 2 1 (from 2 1 "GH") ∷ [])
-    -- 15 and 16 do nothing on a guarded cell; while suppressed they shift up to the line's end
-    ∷ form 1 0 (sends 15 1 0 [] ∷ sends 16 1 0 [] ∷ [])
-    ∷ lifted 1 0 (does 15 1 0 "A BceFGH" ∷ []) ∷ lifted 1 0 (does 16 1 0 "Acd eFGH" ∷ [])
-    ∷ lifted 0 1 (does 15 0 1 "ABcd eFG" ∷ []) ∷ lifted 0 1 (does 16 0 1 "ABcdFGH " ∷ []) ∷ lifted 1 1 (press 127 1 1 "ABcdeGH " [] ∷ [])
-    -- while suppressed typing and key 8 go from cell to cell, and stay at the screen's ends; tab goes to the unprotected field
-    ∷ lifted 0 0 (types "x" 1 0 "xBcdeFGH" ∷ press 8 0 0 "xBcdeFGH" [] ∷ press 8 0 0 "xBcdeFGH" [] ∷ press 9 2 0 "xBcdeFGH" [] ∷ [])
-    ∷ lifted 3 1 (types "x" 3 1 "ABcdeFGx" ∷ [])
-    -- 38: suppressed twice and ended twice, 23 after each; the two questions; other values
-    ∷ form 0 0
-    (asks (38 ∷ 253 ∷ []) 0 0 (det (38 ∷ 251 ∷ [])) ∷ asks (38 ∷ 253 ∷ []) 0 0 [] ∷ sends 23 0 0 (from 0 0 "AB")
-    ∷ asks (38 ∷ 254 ∷ []) 0 0 (det (38 ∷ 252 ∷ [])) ∷ asks (38 ∷ 254 ∷ []) 0 0 [] ∷ sends 23 0 0 (from 0 0 "")
-    ∷ asks (38 ∷ 251 ∷ []) 0 0 (det (38 ∷ 254 ∷ [])) ∷ asks (38 ∷ 252 ∷ []) 0 0 []
-    ∷ asks (38 ∷ 250 ∷ []) 0 0 (error 38 11) ∷ asks (38 ∷ 255 ∷ 255 ∷ []) 0 0 (error 38 11) ∷ [])
-    -- ---- moving, erasing, sending
-    -- home and reverse tab, protection in effect and suppressed
-    ∷ form 3 1 (does 12 2 0 "ABcdeFGH" ∷ []) ∷ lifted 3 1 (does 12 0 0 "ABcdeFGH" ∷ [])
-    ∷ form 3 1 (does 19 2 0 "ABcdeFGH" ∷ []) ∷ lifted 3 1 (does 19 0 0 "ABcdeFGH" ∷ [])
-    -- erase line
-    ∷ form 1 0 (does 30 1 0 "AB  eFGH" ∷ []) ∷ lifted 1 0 (does 30 1 0 "    eFGH" ∷ []) ∷ form 3 1 (does 30 3 1 "ABcd FGH" ∷ [])
-    -- erase field, also on a guarded cell
-    ∷ form 0 1 (does 31 0 1 "AB   FGH" ∷ []) ∷ lifted 2 1 (does 31 2 1 "ABcde   " ∷ []) ∷ form 2 1 (does 31 2 1 "ABcdeFGH" ∷ [])
-    -- erase rest of screen, of line, of field
-    ∷ form 3 0 (does 32 3 0 "ABc  FGH" ∷ []) ∷ lifted 3 0 (does 32 3 0 "ABc     " ∷ [])
-    ∷ form 1 0 (does 33 1 0 "AB  eFGH" ∷ []) ∷ lifted 1 0 (does 33 1 0 "A   eFGH" ∷ [])
-    ∷ form 3 0 (does 34 3 0 "ABc  FGH" ∷ []) ∷ lifted 2 1 (does 34 2 1 "ABcdeF  " ∷ []) ∷ form 2 1 (does 34 2 1 "ABcdeFGH" ∷ [])
-    -- erase unprotected, the same while suppressed
-    ∷ form 3 1 (does 35 2 0 "AB   FGH" ∷ []) ∷ lifted 3 1 (does 35 2 0 "AB   FGH" ∷ [])
-    -- erase screen, after which it is one unprotected field
-    ∷ form 3 1 (does 29 0 0 "        " ∷ runs (21 ∷ []) 0 0 "        " (from 0 0 "        ") ∷ [])
-    -- send screen; line, then the next line, the last one too; rest of screen, of line
-    ∷ form 3 1 (sends 20 0 0 (from 0 0 "ABcdeFGH") ∷ [])
-    ∷ form 1 0 (sends 22 0 1 (from 0 0 "ABcd") ∷ []) ∷ form 2 1 (sends 22 0 1 (from 0 1 "eFGH") ∷ [])
-    ∷ form 1 0 (sends 24 1 0 (from 1 0 "BcdeFGH") ∷ sends 25 1 0 (from 1 0 "Bcd") ∷ [])
-    -- move: limited in x, in y, in both with one ERROR
-    ∷ form 2 0 (asks (5 ∷ 4 ∷ 0 ∷ []) 3 0 (error 5 3) ∷ asks (5 ∷ 1 ∷ 2 ∷ []) 1 1 (error 5 3) ∷ [])
-    ∷ form 2 0 (asks (5 ∷ 255 ∷ 255 ∷ 9 ∷ []) 3 1 (error 5 3) ∷ [])
-    -- steps, none at the edge; read cursor
-    ∷ form 3 0 (sends 8 3 0 [] ∷ sends 11 3 0 [] ∷ sends 9 3 1 [] ∷ sends 9 3 1 [] ∷ sends 10 2 1 [] ∷ [])
-    ∷ form 0 1 (sends 10 0 1 [] ∷ sends 8 0 0 [] ∷ sends 11 1 0 [] ∷ sends 17 1 0 (det (18 ∷ 1 ∷ 0 ∷ [])) ∷ [])
-    -- repeat at the last cell, where the cursor stays; no times; what is no character
-    ∷ free 2 1 (runs (37 ∷ 3 ∷ 0x78 ∷ []) 3 1 "abcdefxx" [] ∷ runs (37 ∷ 1 ∷ 0x79 ∷ []) 3 1 "abcdefxy" [] ∷ [])
-    ∷ form 2 0 (asks (37 ∷ 0 ∷ 0x78 ∷ []) 2 0 [] ∷ asks (37 ∷ 0 ∷ 31 ∷ []) 2 0 (error 37 11) ∷ asks (37 ∷ 1 ∷ 127 ∷ []) 2 0 (error 37 11) ∷ [])
-    -- the terminal's own maps; ERROR is not answered; the first and the last function key
-    ∷ form 2 0
-    (asks (1 ∷ 0 ∷ []) 2 0 (det (1 ∷ 54 ∷ [])) ∷ asks (2 ∷ 0 ∷ []) 2 0 (det (2 ∷ 31 ∷ []))
-    ∷ asks (3 ∷ 0 ∷ []) 2 0 (det (3 ∷ 63 ∷ [])) ∷ asks (4 ∷ 0 ∷ 0 ∷ []) 2 0 (det (4 ∷ 144 ∷ 121 ∷ []))
-    ∷ asks (41 ∷ 5 ∷ 3 ∷ []) 2 0 [] ∷ press 128 2 0 "ABcdeFGH" (det (40 ∷ 1 ∷ [])) ∷ press 143 2 0 "ABcdeFGH" (det (40 ∷ 16 ∷ [])) ∷ [])
-    -- ---- ERROR
-    -- Too few or too many parameters: of 5, of a command that takes none and so has never too few, of 36 that takes four.
-    ∷ form 2 0 (errs 10 5 [] ∷ errs 10 5 (1 ∷ []) ∷ errs 9 5 (replicate 3 1) ∷ errs 9 5 (replicate 10 1) ∷ [])
-    ∷ form 2 0 (errs 9 11 (1 ∷ []) ∷ errs 9 11 (replicate 8 1) ∷ [])
-    ∷ form 2 0 (errs 10 36 (replicate 3 32) ∷ errs 9 36 (replicate 5 32) ∷ errs 9 36 (replicate 12 32) ∷ [])
-    -- unknown codes, whatever follows them; 255 is doubled
-    ∷ form 2 0 (map (λ code. errs 2 code []) (0 ∷ 6 ∷ 7 ∷ 13 ∷ 14 ∷ 18 ∷ 27 ∷ 28 ∷ 39 ∷ 40 ∷ 42 ∷ 254 ∷ []))
-    ∷ form 2 0 (errs 2 6 (replicate 8 1) ∷ asks (255 ∷ 255 ∷ []) 2 0 (det (41 ∷ 255 ∷ 255 ∷ 2 ∷ [])) ∷ [])
-    -- 36 where six cells remain: 12 goes before 11; seven are too many, 256 too
-    ∷ form 2 0
-    (errs 12 36 (32 ∷ 0 ∷ 0 ∷ 7 ∷ []) ∷ errs 12 36 (0 ∷ 1 ∷ 0 ∷ 7 ∷ []) ∷ errs 12 36 (128 ∷ 0 ∷ 0 ∷ 0 ∷ [])
-    ∷ errs 11 36 (0 ∷ 0 ∷ 0 ∷ 7 ∷ []) ∷ errs 11 36 (0 ∷ 0 ∷ 1 ∷ 0 ∷ []) ∷ [])
-    -- all six: the field reaches the end; none: nothing happens; one: it is a field by itself
-    ∷ form 2 0 (asks (36 ∷ 0 ∷ 0 ∷ 0 ∷ 6 ∷ []) 2 0 [] ∷ sends 23 2 0 (from 2 0 "cdeFGH") ∷ [])
-    ∷ form 2 0 (asks (36 ∷ 8 ∷ 0 ∷ 0 ∷ 0 ∷ []) 2 0 [] ∷ sends 23 2 0 (from 2 0 "cde") ∷ [])
-    ∷ form 2 0 (asks (36 ∷ 31 ∷ 0 ∷ 0 ∷ 1 ∷ []) 2 0 [] ∷ sends 23 2 0 (from 2 0 "c") ∷ [])
-    -- ---- Telnet bytes and host data
-    -- IAC SB in a subnegotiation begins anew, and the new one is obeyed
-    ∷ form 2 0 (reads (0xff ∷ 0xfa ∷ 0x14 ∷ 17 ∷ det (11 ∷ [])) 3 0 "ABcdeFGH" [] ∷ [])
-    -- DO 3 in one throws it away and is answered; its end then means nothing, and data is data
-    ∷ form 2 0
-    (hears (0xff ∷ 0xfa ∷ 0x14 ∷ 11 ∷ verb 253 3) (verb 252 3) ∷ hears (0xff ∷ 0xf0 ∷ []) [] ∷ reads (characters "x") 3 0 "ABxdeFGH" [] ∷ [])
-    -- so does a command that does nothing
-    ∷ form 2 0 (hears (0xff ∷ 0xfa ∷ 0x14 ∷ 11 ∷ 0xff ∷ 0xf1 ∷ 0xff ∷ 0xf0 ∷ []) [] ∷ [])
-    -- option 255 stands single, in the answer too
-    ∷ form 2 0
-    (hears (verb 253 255) (verb 252 255) ∷ hears (verb 251 255) (verb 254 255) ∷ reads (characters "x") 3 0 "ABxdeFGH" [] ∷ [])
-    -- subnegotiations of options 21 and 255, and one with no option byte, are ignored
-    ∷ form 2 0
-    (hears (0xff ∷ 0xfa ∷ 21 ∷ 11 ∷ 0xff ∷ 0xf0 ∷ []) [] ∷ hears (0xff ∷ 0xfa ∷ 0xff ∷ 0xff ∷ 11 ∷ 0xff ∷ 0xf0 ∷ []) []
-    ∷ hears (0xff ∷ 0xfa ∷ 0xff ∷ 0xf0 ∷ []) [] ∷ [])
-    -- a command cut in two with a key between; one cut after each IAC
-    ∷ form 2 0
-    (hears (0xff ∷ 0xfa ∷ 0x14 ∷ 5 ∷ []) [] ∷ types "x" 3 0 "ABxdeFGH" ∷ reads (1 ∷ 1 ∷ 0xff ∷ 0xf0 ∷ []) 1 1 "ABxdeFGH" [] ∷ [])
-    ∷ form 2 0 (hears (0xff ∷ []) [] ∷ hears (0xfa ∷ 0x14 ∷ 11 ∷ 0xff ∷ []) [] ∷ reads (0xf0 ∷ []) 3 0 "ABcdeFGH" [] ∷ [])
-    -- Two questions, each answered with 8 bytes. With room 65 there are 57 left after the first, one too few; with 66 there are 58.
-    ∷ form 2 0 (hostTrial 65 (det (17 ∷ []) ++ det (17 ∷ [])) (see 0 6 2 0 "ABcdeFGH" (det (18 ∷ 2 ∷ 0 ∷ []))) ∷ [])
-    ∷ form 2 0
-    (hostTrial 66 (det (17 ∷ []) ++ det (17 ∷ [])) (see 0 12 2 0 "ABcdeFGH" (det (18 ∷ 2 ∷ 0 ∷ []) ++ det (18 ∷ 2 ∷ 0 ∷ []))) ∷ [])
-    -- DONT 20 ends suppression: a character is dropped, a command ignored. After DO 20 protection is in effect still.
-    ∷ lifted 0 0
-    (reads (verb 254 20) 0 0 "ABcdeFGH" (verb 252 20) ∷ reads (verb 254 20) 0 0 "ABcdeFGH" []
-    ∷ reads (characters "x") 0 0 "ABcdeFGH" [] ∷ sends 11 0 0 []
-    ∷ reads (verb 253 20) 0 0 "ABcdeFGH" (verb 251 20) ∷ reads (verb 253 20) 0 0 "ABcdeFGH" [] ∷ sends 23 0 0 (from 0 0 "") ∷ [])
-    -- WILL is declined, of option 20 too; WONT, and DONT of another, are not answered
-    ∷ form 2 0 (hears (verb 251 20) (verb 254 20) ∷ hears (verb 252 20) [] ∷ hears (verb 254 3) [] ∷ [])
-    -- BS and LF, and each at the edge; CR; other data, 255 too, and other commands; the last cell
-    ∷ form 2 0 (reads (8 ∷ []) 1 0 "ABcdeFGH" [] ∷ reads (10 ∷ []) 1 1 "ABcdeFGH" [] ∷ reads (10 ∷ 8 ∷ 8 ∷ []) 0 1 "ABcdeFGH" [] ∷ [])
-    ∷ form 3 1 (reads (13 ∷ []) 0 1 "ABcdeFGH" [] ∷ [])
-    ∷ form 2 0 (hears (0 ∷ 7 ∷ 9 ∷ 31 ∷ 127 ∷ 128 ∷ 254 ∷ 0xff ∷ 0xff ∷ []) [] ∷ hears (0xff ∷ 0x41 ∷ 0xff ∷ 0xf1 ∷ []) [] ∷ [])
-    ∷ free 2 1 (reads (characters "xyz") 3 1 "abcdefxz" [] ∷ [])
-    -- ---- refusals
-    -- The order is 1, 2, 3, 4, 5, 9, 8, 6, 7. Faults 1 to 5 at once, the key's 9 too: no width, four cells where none belong, a
-    -- character 31, the cursor past the end, room 1. Then without the first of them, and so on down to 9 alone, with the least room.
-    ∷ both 1 1 (line 0 (31 ∷ characters "bcd") 4)
-    ∷ both 2 1 (line 5 (31 ∷ characters "bcd") 5)
-    ∷ both 3 1 (line 4 (31 ∷ characters "bcd") 4)
-    ∷ both 4 1 (line 4 (characters "abcd") 4)
-    ∷ both 5 29 (line 4 (characters "abcd") 0)
-    ∷ denied (line 4 (characters "abcd") 0) (map (λ k. (9, 30, k)) (0 ∷ 1 ∷ 7 ∷ 10 ∷ 12 ∷ 14 ∷ 31 ∷ 144 ∷ 255 ∷ []))
-    -- No two of the last four come together: a key without meaning (9) is no send key (8), a send key is neither typed nor delete
-    -- (6), a guarded cell (6) has no class (7). Each comes with 5, and then alone.
-    ∷ denied off ((5, 57, 13) ∷ (5, 57, 128) ∷ (8, 58, 13) ∷ (8, 58, 128) ∷ (8, 58, 143) ∷ (9, 58, 144) ∷ [])
-    ∷ denied (label false 1 0) ((5, 57, char "x") ∷ (5, 57, 127) ∷ (6, 58, char "x") ∷ (6, 58, 127) ∷ [])
-    ∷ denied (cell 24 false) ((5, 8, char "x") ∷ (7, 9, char "x") ∷ [])
-    -- without DET the other keys are taken
-    ∷ case off (types "x" 3 0 "ABxdeFGH" ∷ press 127 3 0 "ABx eFGH" [] ∷ press 8 2 0 "ABx eFGH" [] ∷ press 9 2 0 "ABx eFGH" [] ∷ [])
-    -- 1: too wide, too high, no line. 2: the characters, the attributes
-    ∷ both 1 933 (starting 133 1 false (replicate 133 32) (replicate 133 0) 0 0)
-    ∷ both 1 457 (starting 1 65 false (replicate 65 32) (replicate 65 0) 0 0)
-    ∷ both 1 2 (starting 4 0 false [] [] 0 0)
-    ∷ both 2 30 (line 4 (characters "abc") 0) ∷ both 2 23 (line 3 (characters "abc") 0)
-    -- 3: 31 and 127, where 32 and 126 are taken
-    ∷ both 3 30 (line 4 (31 ∷ characters "bcd") 0) ∷ both 3 30 (line 4 (characters "abc" ++ (127 ∷ [])) 0)
-    ∷ case (line 4 (characters "a ~d") 0) (hostTrial 30 (characters "x") (see 0 1 1 0 "x ~d" []) ∷ [])
-    -- 4: off the screen in x alone, in y alone; seven bytes held, where six are taken, and are not the next command's
-    ∷ both 4 58 (label false 4 0) ∷ both 4 58 (label false 0 2) ∷ both 4 58 (holds 7)
-    ∷ case (holds 6) (types "x" 3 0 "ABxdeFGH" ∷ []) ∷ case (holds 6) (sends 11 3 0 [] ∷ [])
-    ∷ []
+    classes ++ (fields ++ (guards ++ (moves ++ (edits ++ (formatting ++
+    (errors ++ (telnet ++ (data-cases ++ (order ++ (refusals ++ opened-cases))))))))))
 
 pub shut-holds : observed shut ≡ expected shut
-unfolding computing shut characters seenIn
-shut-holds = refl
-
--- ---- what a trial does not show: the bytes held, and the reply buffer past the bytes written
-
-abbrev heldIn : List ℕ → Held
-heldIn input = (called (label false 2 0) (host input (replicate 58 7))) .answer .session .reader .held
-
-pub record Unseen : Type 0 where
-  -- half read: the bytes after the option byte, six of them at most
-  pub half : heldIn (0xff ∷ 0xfa ∷ 0x14 ∷ 7 ∷ 8 ∷ []) ≡ record { bytes = 7 ∷ 8 ∷ replicate 4 0; count = 2 }
-  pub long : heldIn (0xff ∷ 0xfa ∷ 0x14 ∷ 1 ∷ 2 ∷ replicate 9 3) ≡ record { bytes = 1 ∷ 2 ∷ replicate 4 3; count = 6 }
-  -- obeyed, answered by an ERROR, ignored, thrown away: none
-  pub none :
-      map heldIn (det (11 ∷ []) ∷ det (11 ∷ 1 ∷ []) ∷ (0xff ∷ 0xfa ∷ 21 ∷ 11 ∷ 0xff ∷ 0xf0 ∷ []) ∷ (0xff ∷ 0xfa ∷ 0x14 ∷ 11 ∷ verb 253 3) ∷ [])
-      ≡ replicate 4 noneHeld
-  -- eight bytes written, the rest as lent; refused, all as lent
-  pub lent : (called (label false 2 0) (host (det (17 ∷ [])) (replicate 58 7))) .reply ≡ det (18 ∷ 2 ∷ 0 ∷ []) ++ replicate 50 7
-  pub kept : (called (label false 2 0) (host (det (17 ∷ [])) (replicate 57 7))) .reply ≡ replicate 57 7
-
-pub unseen-holds : Unseen
-unfolding computing characters
-unseen-holds = record { half = refl; long = refl; none = refl; lent = refl; kept = refl }
+unfolding shut
+shut-holds =
+    each-equal shut
+    (all-pass classes _ classes-pass (all-pass fields _ fields-pass (all-pass guards _ guards-pass (all-pass moves _ moves-pass
+    (all-pass edits _ edits-pass (all-pass formatting _ formatting-pass (all-pass errors _ errors-pass (all-pass telnet _ telnet-pass
+    (all-pass data-cases _ data-pass (all-pass order _ order-pass (all-pass refusals _ refusals-pass opened-pass)))))))))))

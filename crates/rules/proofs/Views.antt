@@ -17,8 +17,8 @@ use Rattle.rules.specs.declared.Destination.{Destination}
 use Rattle.rules.specs.declared.Destination.the-variants.{Up, Down, Left, Right, Corner, LineStart, NextLine, NextCell, Home, ReverseTab, FirstField, NextField, NextOpen, PreviousOpen}
 use Rattle.rules.specs.Session.{View, cursorCell, withCursor, withModes, withAttrs}
 use Rattle.rules.specs.Cursor.{limited, oneMore, nextCell, homeCell, backTabCell, firstFieldCell, nextFieldCell, previousOpenCell, destination, sentTo}
--- the worked cases are checked first, so that a wrong rule is refused there
-use Rattle.rules.proofs.Shut.{shut-holds}
+-- the sentences of document 01 are checked first, so that a wrong rule is refused there
+use Rattle.rules.proofs.Causes.{nothing-else}
 
 -- a place on a screen m cells wide and n lines high
 abbrev pub On : ℕ → ℕ → Place → Type 0

@@ -10,4 +10,6 @@ pub mod Key
 pub mod Operation
 pub mod Call
 pub mod Noninterference
+pub mod Executed
+pub mod Causes
 pub mod cases

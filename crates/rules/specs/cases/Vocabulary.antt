@@ -1,16 +1,22 @@
--- Worked cases: a start, and calls one after the other with what is seen after each.
-use mathlib.Core.Bool.{Bool, true}
-use mathlib.Core.List.{List, [], _∷_, map}
-use Prim.Native.Nat.{ℕ}
+-- Worked cases. A case has a title, a start, and calls one after the other with all that each is to return and to leave.
+use mathlib.Core.Bool.{Bool, true, false, _&&_}
+use mathlib.Core.List.{List, [], _∷_, _++_, map}
+use Prim.Native.Nat.{ℕ, zero, suc, _-_}
 use Prim.Native.Char.{code}
 use Prim.Native.String.{String}
 use Prim.Native.String as string
-use lib.ListN.{take, replicate}
-use Rattle.telnet.specs.declared.Phase.the-variants.{Rest}
+use lib.Dec.{eqb}
+use lib.ListN.{length, replicate}
+use Rattle.telnet.specs.declared.Phase.{Phase}
+use Rattle.telnet.specs.declared.Phase.the-variants.{Rest, Iac, Negotiating, Opening, OpeningIac, Inside, InsideIac}
+use Rattle.telnet.specs.Reader.{verbCode}
+use Rattle.screen.specs.Words.{if_then_else_}
 use Rattle.screen.specs.Cells.{place}
-use Rattle.rules.specs.Session.{State, noneHeld, session, screen, state}
+use Rattle.rules.specs.declared.Reader.{Reader}
+use Rattle.rules.specs.declared.Frame.{Frame}
+use Rattle.rules.specs.Session.{Screen, State, session, screen, state}
 use Rattle.rules.specs.Refusal.{numberOf}
-use Rattle.rules.specs.Operation.{Outcome}
+use Rattle.rules.specs.Operation.{Outcome, opened}
 use Rattle.rules.specs.Call.{Call, host, key, called, left}
 
 -- the characters of a text
@@ -18,59 +24,189 @@ unfoldable pub characters : String → List ℕ
 characters string.[] = []
 characters (string._∷_ c s) = code c ∷ characters s
 
+-- ---- what is seen of a call: all that it returns and leaves, its refusal by number
+
 pub record Seen : Type 0 where
   pub refusal : ℕ
   pub taken : ℕ
-  pub x : ℕ
-  pub y : ℕ
-  pub chars : List ℕ
-  pub replies : List ℕ
+  pub written : ℕ
+  pub left : State
+  pub reply : List ℕ
 
 abbrev pub look : Outcome → Seen
 look o =
     record {
       refusal = numberOf (o .answer .refusal);
       taken = o .answer .taken;
-      x = o .answer .session .frame .cursor .x .0;
-      y = o .answer .session .frame .cursor .y .0;
-      chars = o .screen .chars;
-      replies = take (o .answer .written) (o .reply);
+      written = o .answer .written;
+      left = left o;
+      reply = o .reply;
     }
 
--- a call, and what is to be seen after it
+-- ---- trials
+
+-- every byte of a reply buffer as it is lent
+abbrev pub lent : ℕ
+lent = 7
+
+-- A call, given a reply buffer of so many bytes. Then what is to be seen: the refusal, the bytes taken, the state that is left by the
+-- one before the call, the bytes replied.
 pub record Trial : Type 0 where
-  pub call : Call
-  pub seen : Seen
+  pub call : List ℕ → Call
+  pub room : ℕ
+  pub refusal : ℕ
+  pub taken : ℕ
+  pub leaves : State → State
+  pub replies : List ℕ
+
+-- what is to be seen of a call: behind the bytes replied the buffer is as it was lent
+abbrev pub seen : ℕ → ℕ → State → List ℕ → ℕ → Seen
+seen refusal taken s replies room =
+    record {
+      refusal = refusal;
+      taken = taken;
+      written = length replies;
+      left = s;
+      reply = replies ++ replicate (room - length replies) lent;
+    }
+
+unfoldable pub expectedIn : State → List Trial → List Seen
+expectedIn s [] = []
+expectedIn s (t ∷ ts) = seen (t .refusal) (t .taken) (t .leaves s) (t .replies) (t .room) ∷ expectedIn (t .leaves s) ts
+
+unfoldable pub observedIn : State → List Trial → List Seen
+observedIn s [] = []
+observedIn s (t ∷ ts) = let o = called s (t .call (replicate (t .room) lent)) in look o ∷ observedIn (left o) ts
+
+-- ---- cases
 
 pub record Case : Type 0 where
-  pub start : State
-  pub trials : List Trial
+  pub title : String
+  pub observed : List Seen
+  pub expected : List Seen
 
-unfoldable pub seenIn : State → List Trial → List Seen
-seenIn s [] = []
-seenIn s (t ∷ ts) = let o = called s (t .call) in look o ∷ seenIn (left o) ts
+abbrev pub case : String → State → List Trial → Case
+case title s trials = record { title = title; observed = observedIn s trials; expected = expectedIn s trials }
+
+-- an open of m by n with these buffers: the refusal, and what is left
+abbrev pub opening : String → ℕ → ℕ → Screen → ℕ → State → Case
+opening title m n b refusal s =
+    record { title = title; observed = look (opened m n b) ∷ []; expected = seen refusal 0 s [] 0 ∷ [] }
 
 abbrev pub expected : List Case → List (List Seen)
-expected cases = map (λ c. map (λ t. t .seen) (c .trials)) cases
+expected cases = map (λ c. c .expected) cases
 
 abbrev pub observed : List Case → List (List Seen)
-observed cases = map (λ c. seenIn (c .start) (c .trials)) cases
+observed cases = map (λ c. c .observed) cases
+
+-- ---- a case that fails is named by its title
+
+-- what is seen but for its lists, as numbers
+abbrev pub bit : Bool → ℕ
+bit true = 1
+bit false = 0
+
+unfoldable pub phaseNumbers : Phase → List ℕ
+phaseNumbers Rest = 0 ∷ 0 ∷ []
+phaseNumbers Iac = 1 ∷ 0 ∷ []
+phaseNumbers (Negotiating verb) = 2 ∷ verbCode verb ∷ []
+phaseNumbers Opening = 3 ∷ 0 ∷ []
+phaseNumbers OpeningIac = 4 ∷ 0 ∷ []
+phaseNumbers (Inside option) = 5 ∷ option ∷ []
+phaseNumbers (InsideIac option) = 6 ∷ option ∷ []
+
+unfoldable pub numbers : Seen → List ℕ
+numbers o =
+    let f = o .left .session .frame in
+    let r = o .left .session .reader in
+    o .refusal ∷ o .taken ∷ o .written ∷ f .width ∷ f .height ∷ f .cursor .x .0 ∷ f .cursor .y .0
+    ∷ bit (f .det) ∷ bit (f .suppressed) ∷ r .held .count ∷ phaseNumbers (r .phase)
+
+unfoldable pub same : List ℕ → List ℕ → Bool
+same [] [] = true
+same [] (y ∷ ys) = false
+same (x ∷ xs) [] = false
+same (x ∷ xs) (y ∷ ys) = eqb x y && same xs ys
+
+unfoldable pub sameSeen : Seen → Seen → Bool
+sameSeen a b =
+    same (numbers a) (numbers b)
+    && (same (a .left .session .reader .held .bytes) (b .left .session .reader .held .bytes)
+    && (same (a .left .screen .chars) (b .left .screen .chars)
+    && (same (a .left .screen .attrs) (b .left .screen .attrs) && same (a .reply) (b .reply))))
+
+unfoldable pub sameAll : List Seen → List Seen → Bool
+sameAll [] [] = true
+sameAll [] (y ∷ ys) = false
+sameAll (x ∷ xs) [] = false
+sameAll (x ∷ xs) (y ∷ ys) = sameSeen x y && sameAll xs ys
+
+-- no proof of this can be given, and the checker says for which title it wants one
+pub data Fails (title : String) : Type 0 where
+
+abbrev pub Passes : List Case → Type 0
+Passes [] = Unit {0}
+Passes (c ∷ cs) = (if sameAll (c .observed) (c .expected) then Unit {0} else Fails (c .title)) × Passes cs
+
+-- the numbers below n that fail a test
+unfoldable pub failures : (ℕ → Bool) → ℕ → List ℕ
+failures test zero = []
+failures test (suc n) = let rest = failures test n in if test n then rest else n ∷ rest
+
+-- ---- states
+
+abbrev framed : ℕ → ℕ → ℕ → ℕ → Bool → Bool → Frame
+framed m n x y det suppressed = record { width = m; height = n; cursor = place x y; det = det; suppressed = suppressed }
+
+-- where the reader stands, and the bytes held
+abbrev reader : Phase → List ℕ → Reader
+reader phase held = record { phase = phase; held = record { bytes = held ++ replicate (6 - length held) 0; count = length held } }
 
 -- a start with DET on
 abbrev pub starting : ℕ → ℕ → Bool → List ℕ → List ℕ → ℕ → ℕ → State
-starting m n suppressed chars attrs x y =
-    state
-    (session
-    (record { width = m; height = n; cursor = place x y; det = true; suppressed = suppressed })
-    (record { phase = Rest; held = noneHeld }))
-    (screen chars attrs)
+starting m n suppressed chars attrs x y = state (session (framed m n x y true suppressed) (reader Rest [])) (screen chars attrs)
 
--- host bytes, or a key, with so much reply room
-abbrev pub hostTrial : ℕ → List ℕ → Seen → Trial
-hostTrial room input seen = record { call = host input (replicate room 0); seen = seen }
+-- a state with one thing else, and all other things as they were: the cursor, the modes, the reader with the bytes held, the
+-- characters, the attribute bytes
+abbrev pub at : ℕ → ℕ → State → State
+at x y s =
+    let f = s .session .frame in
+    state (session (framed (f .width) (f .height) x y (f .det) (f .suppressed)) (s .session .reader)) (s .screen)
 
-abbrev pub keyTrial : ℕ → ℕ → Seen → Trial
-keyTrial room k seen = record { call = key k (replicate room 0); seen = seen }
+abbrev pub modes : Bool → Bool → State → State
+modes det suppressed s =
+    let f = s .session .frame in
+    state (session (framed (f .width) (f .height) (f .cursor .x .0) (f .cursor .y .0) det suppressed) (s .session .reader)) (s .screen)
 
-abbrev pub see : ℕ → ℕ → ℕ → ℕ → String → List ℕ → Seen
-see refusal taken x y text replies = record { refusal = refusal; taken = taken; x = x; y = y; chars = characters text; replies = replies }
+abbrev pub reading : Phase → List ℕ → State → State
+reading phase held s = state (session (s .session .frame) (reader phase held)) (s .screen)
+
+abbrev pub showing : List ℕ → State → State
+showing chars s = state (s .session) (screen chars (s .screen .attrs))
+
+abbrev pub attributed : List ℕ → State → State
+attributed attrs s = state (s .session) (screen (s .screen .chars) attrs)
+
+abbrev pub unchanged : State → State
+unchanged s = s
+
+-- the cursor there, and this text on the screen
+abbrev pub see : ℕ → ℕ → String → State → State
+see x y text s = at x y (showing (characters text) s)
+
+-- ---- host bytes, or a key, with so much reply room: taken, or refused with this number
+
+abbrev pub hostTrial : ℕ → List ℕ → ℕ → (State → State) → List ℕ → Trial
+hostTrial room input taken leaves replies =
+    record { call = host input; room = room; refusal = 0; taken = taken; leaves = leaves; replies = replies }
+
+abbrev pub keyTrial : ℕ → ℕ → (State → State) → List ℕ → Trial
+keyTrial room k leaves replies = record { call = key k; room = room; refusal = 0; taken = 1; leaves = leaves; replies = replies }
+
+abbrev pub refusedTrial : ℕ → ℕ → (List ℕ → Call) → Trial
+refusedTrial number room call = record { call = call; room = room; refusal = number; taken = 0; leaves = unchanged; replies = [] }
+
+-- names what a proof about cases computes with, beside the rules
+unfoldable pub seeing : ℕ
+unfolding characters expectedIn observedIn phaseNumbers numbers same sameSeen sameAll failures
+seeing = 0

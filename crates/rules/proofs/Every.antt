@@ -1,0 +1,174 @@
+-- Sentences of document 01 that range over all codes, keys, options or bytes: each once, over all of them.
+use mathlib.Core.Path.{_≡_, refl, ap, _∙_}
+use mathlib.Core.Bool.{Bool, true, false}
+use mathlib.Core.List.{List, [], _∷_, _++_}
+use Prim.Native.Nat.{ℕ, _-_, _<_}
+use borrow.Author.Tests.{eqb-true}
+use lib.Dec.{eqb}
+use lib.ListN.{replicate}
+use Rattle.telnet.specs.declared.Phase.the-variants.{Iac}
+use Rattle.telnet.specs.declared.Verb.the-variants.{Will, Wont, Do, Dont}
+use Rattle.telnet.specs.Writer.{subnegotiation, negotiation}
+use Rattle.screen.specs.Words.{if_then_else_, between}
+use Rattle.rules.specs.declared.Held.{Held}
+use Rattle.rules.specs.Session.{View, State, screen, withModes}
+use Rattle.rules.specs.Refusal.{numberOf}
+use Rattle.rules.specs.Effect.{bytes, saying, quiet}
+use Rattle.rules.specs.Command.{Listed, listed, unlisted, rowOf, codeIn}
+use Rattle.rules.specs.Telnet.{negotiated}
+use Rattle.rules.specs.Subcommand.{looked, subcommand}
+use Rattle.rules.specs.Operation.{opened}
+use Rattle.rules.specs.Call.{host, key, called}
+use Rattle.rules.specs.Executed.{oneOf}
+use Rattle.rules.specs.cases.Computing.{computing}
+use Rattle.rules.specs.cases.Vocabulary.{Seen, look, lent, seen, same, sameSeen, failures, characters, starting, at, modes, reading, showing, unchanged, seeing}
+use Rattle.rules.proofs.Passing.{same-equal, seen-equal, below-passes}
+-- the worked cases are checked first
+use Rattle.rules.proofs.Shut.{shut-holds}
+
+-- IAC SB 20 .. IAC SE
+abbrev det : List ℕ → List ℕ
+det payload = 0xff ∷ 0xfa ∷ 0x14 ∷ (payload ++ (0xff ∷ 0xf0 ∷ []))
+
+-- ---- the 256 codes
+
+-- how many parameters the document's list gives a code, if it has the code
+unfoldable pub listedParameters : ℕ → List ℕ
+listedParameters code =
+    if oneOf (8 ∷ 9 ∷ 10 ∷ 11 ∷ 12 ∷ 15 ∷ 16 ∷ 17 ∷ 19 ∷ 20 ∷ 21 ∷ 22 ∷ 23 ∷ 24 ∷ 25 ∷ 26 ∷ 29 ∷ 30 ∷ 31 ∷ 32 ∷ 33 ∷ 34 ∷ 35 ∷ []) code
+    then 0 ∷ []
+    else if oneOf (1 ∷ 2 ∷ 3 ∷ 38 ∷ []) code then 1 ∷ []
+    else if oneOf (4 ∷ 5 ∷ 37 ∷ 41 ∷ []) code then 2 ∷ []
+    else if eqb code 36 then 4 ∷ []
+    else []
+
+abbrev parametersIn : Listed → List ℕ
+parametersIn (listed r) = r .parameters ∷ []
+parametersIn unlisted = []
+
+codes-computed : failures (λ code. same (parametersIn (rowOf code)) (listedParameters code)) 256 ≡ []
+unfolding computing seeing oneOf listedParameters
+codes-computed = refl
+
+-- each code is in the list with its parameters, or is not
+pub every-code : (code : ℕ) → code < 256 → parametersIn (rowOf code) ≡ listedParameters code
+every-code code h = same-equal _ _ (below-passes _ 256 codes-computed code h)
+
+-- and one that is not draws ERROR 2, whatever follows it
+pub every-other-code : (v : View) (h : Held) → eqb (h .count) 0 ≡ false → rowOf (codeIn h) ≡ unlisted
+    → subcommand v h ≡ saying v (bytes (subnegotiation 20 (41 ∷ codeIn h ∷ 2 ∷ [])) ∷ [])
+unfolding subcommand looked
+every-other-code v h n e = rw (n, e)
+
+-- ---- the 256 keys
+
+-- three cells "abc" of no class, two fields "ab" and "c", the cursor on "b", DET on or off; the least reply room is 23
+abbrev keyed : Bool → State
+keyed on = modes on false (starting 3 1 false (characters "abc") (0 ∷ 0 ∷ 1 ∷ []) 1 0)
+
+-- what each key leaves there and says: typed, previous cell, next field, send, delete, function keys, no meaning
+unfoldable pub keyDoes : Bool → ℕ → Seen
+keyDoes on k =
+    let s = keyed on in
+    if between 32 126 k then seen 0 1 (at 2 0 (showing (97 ∷ k ∷ 99 ∷ []) s)) [] 23
+    else if eqb k 8 then seen 0 1 (at 0 0 s) [] 23
+    else if eqb k 9 then seen 0 1 (at 2 0 s) [] 23
+    else if eqb k 127 then seen 0 1 (showing (97 ∷ 32 ∷ 99 ∷ []) s) [] 23
+    else if eqb k 13
+    then (if on then seen 0 1 (at 0 0 s) (det (28 ∷ 0 ∷ 0 ∷ []) ++ (97 ∷ 98 ∷ (det (39 ∷ []) ++ (99 ∷ [])))) 23 else seen 8 0 s [] 23)
+    else if between 128 143 k then (if on then seen 0 1 s (det (40 ∷ (k - 127) ∷ [])) 23 else seen 8 0 s [] 23)
+    else seen 9 0 s [] 23
+
+abbrev keySeen : Bool → ℕ → Seen
+keySeen on k = look (called (keyed on) (key k (replicate 23 lent)))
+
+keys-on : failures (λ k. sameSeen (keySeen true k) (keyDoes true k)) 256 ≡ []
+unfolding computing seeing keyDoes
+keys-on = refl
+
+keys-off : failures (λ k. sameSeen (keySeen false k) (keyDoes false k)) 256 ≡ []
+unfolding computing seeing keyDoes
+keys-off = refl
+
+pub every-key : (on : Bool) (k : ℕ) → k < 256 → keySeen on k ≡ keyDoes on k
+every-key true k h = seen-equal _ _ (below-passes _ 256 keys-on k h)
+every-key false k h = seen-equal _ _ (below-passes _ 256 keys-off k h)
+
+-- ---- every byte of host data at rest
+
+-- four cells by two, nothing protected, the cursor on "c", DET on or off; the least reply room is 58
+abbrev resting : Bool → State
+resting on = modes on false (starting 4 2 false (characters "abcdefgh") (replicate 8 0) 2 0)
+
+-- written; CR, LF, BS; IAC begins a command; other data does nothing
+unfoldable pub dataDoes : Bool → ℕ → Seen
+dataDoes on b =
+    let s = resting on in
+    let leaves : State → Seen = λ t. seen 0 1 t [] 58 in
+    if between 32 126 b then leaves (at 3 0 (showing (97 ∷ 98 ∷ b ∷ characters "defgh") s))
+    else if eqb b 13 then leaves (at 0 0 s)
+    else if eqb b 10 then leaves (at 2 1 s)
+    else if eqb b 8 then leaves (at 1 0 s)
+    else if eqb b 255 then leaves (reading Iac [] s)
+    else leaves s
+
+abbrev dataSeen : Bool → ℕ → Seen
+dataSeen on b = look (called (resting on) (host (b ∷ []) (replicate 58 lent)))
+
+data-on : failures (λ b. sameSeen (dataSeen true b) (dataDoes true b)) 256 ≡ []
+unfolding computing seeing dataDoes
+data-on = refl
+
+data-off : failures (λ b. sameSeen (dataSeen false b) (dataDoes false b)) 256 ≡ []
+unfolding computing seeing dataDoes
+data-off = refl
+
+pub every-data-byte : (on : Bool) (b : ℕ) → b < 256 → dataSeen on b ≡ dataDoes on b
+every-data-byte true b h = seen-equal _ _ (below-passes _ 256 data-on b h)
+every-data-byte false b h = seen-equal _ _ (below-passes _ 256 data-off b h)
+
+-- ---- every option, with each verb, DET on or off, protection suppressed or not
+
+pub record Negotiates (v : View) : Type 0 where
+  pub do-20-off : v .frame .det ≡ false
+      → negotiated v Do 20 ≡ saying (withModes v true (v .frame .suppressed)) (bytes (255 ∷ 251 ∷ 20 ∷ []) ∷ [])
+  pub do-20-on : v .frame .det ≡ true → negotiated v Do 20 ≡ quiet v
+  pub dont-20-on : v .frame .det ≡ true → negotiated v Dont 20 ≡ saying (withModes v false false) (bytes (255 ∷ 252 ∷ 20 ∷ []) ∷ [])
+  pub dont-20-off : v .frame .det ≡ false → negotiated v Dont 20 ≡ quiet v
+  pub do-other : (option : ℕ) → eqb option 20 ≡ false → negotiated v Do option ≡ saying v (bytes (255 ∷ 252 ∷ option ∷ []) ∷ [])
+  pub dont-other : (option : ℕ) → eqb option 20 ≡ false → negotiated v Dont option ≡ quiet v
+  pub any-will : (option : ℕ) → negotiated v Will option ≡ saying v (bytes (255 ∷ 254 ∷ option ∷ []) ∷ [])
+  pub any-wont : (option : ℕ) → negotiated v Wont option ≡ quiet v
+
+pub every-option : (v : View) → Negotiates v
+unfolding negotiated negotiation
+every-option v =
+    record {
+      do-20-off = λ e. rw e;
+      do-20-on = λ e. rw e;
+      dont-20-on = λ e. rw e;
+      dont-20-off = λ e. rw e;
+      do-other = λ option e. rw e;
+      dont-other = λ option e. rw e;
+      any-will = λ option. refl;
+      any-wont = λ option. refl;
+    }
+
+-- ---- every width and height: open refuses 1 outside 1 to 132 and 1 to 64, and 2 within, no cell being lent
+
+abbrev openSeen : ℕ → ℕ → ℕ
+openSeen m n = numberOf ((opened m n (screen [] [])) .answer .refusal)
+
+widths : failures (λ m. eqb (openSeen m 1) (if between 1 132 m then 2 else 1)) 256 ≡ []
+unfolding computing seeing
+widths = refl
+
+heights : failures (λ n. eqb (openSeen 1 n) (if between 1 64 n then 2 else 1)) 256 ≡ []
+unfolding computing seeing
+heights = refl
+
+pub every-width : (m : ℕ) → m < 256 → openSeen m 1 ≡ (if between 1 132 m then 2 else 1)
+every-width m h = eqb-true _ _ (below-passes _ 256 widths m h)
+
+pub every-height : (n : ℕ) → n < 256 → openSeen 1 n ≡ (if between 1 64 n then 2 else 1)
+every-height n h = eqb-true _ _ (below-passes _ 256 heights n h)

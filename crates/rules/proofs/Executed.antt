@@ -1,0 +1,198 @@
+-- The premise of demand 3: the seven by their numbers, and what a call executes.
+use mathlib.Core.Path.{_≡_, refl, ap, ap₂, _∙_}
+use mathlib.Core.Bool.{Bool, true, false, not, _&&_}
+use mathlib.Core.List.{List, [], _∷_, map}
+use Prim.Native.Nat.{ℕ}
+use lib.Dec.{eqb}
+use lib.ListN.{getD}
+use Rattle.telnet.specs.declared.Verb.{Verb}
+use Rattle.telnet.specs.declared.Verb.the-variants.{Will, Wont, Do, Dont}
+use Rattle.telnet.specs.declared.Event.{Event}
+use Rattle.telnet.specs.declared.Event.the-variants.{Nothing, Data, Negotiation, Begin, Sub, End, EndBare, Lost}
+use Rattle.screen.proofs.WordLaws.{either, not-both, true-or-false, and-false}
+use Rattle.rules.specs.declared.Held.{Held}
+use Rattle.rules.specs.declared.Fault.{Fault}
+use Rattle.rules.specs.declared.Fault.the-variants.{NoFault, UnknownCode, OffScreen, TooManyParameters, TooFewParameters, BadValue, BadMap}
+use Rattle.rules.specs.declared.Refusal.{Refusal}
+use Rattle.rules.specs.declared.Refusal.the-variants.{Taken, Size, BufferLength, BadCharacter, BadSession, ReplyRoom, Guarded, WrongClass, DetOff, NoMeaning}
+use Rattle.rules.specs.Number.{detOption}
+use Rattle.rules.specs.Session.{View, State, printable}
+use Rattle.rules.specs.Refusal.{isTaken}
+use Rattle.rules.specs.Effect.{Effect, Executed}
+use Rattle.rules.specs.Command.{Row, rows, Listed, listed, unlisted, rowOf, codeIn, reaches, reachesPast}
+use Rattle.rules.specs.Cursor.{cursorGuarded}
+use Rattle.rules.specs.Telnet.{negotiated, hostCharacter, hostData}
+use Rattle.rules.specs.Subcommand.{judged, looked, subcommand}
+use Rattle.rules.specs.Operation.{happening, hostByte, running, unless, hostBytes, hostRefusal, oneKey, keyRefusal}
+use Rattle.rules.specs.Call.{Call, host, key, called, executedBy, executedOf}
+use Rattle.rules.specs.Executed.{oneOf, isSeven, Seven, SubcommandExecutes, EventExecutes, CallExecutes, noneSeven, PremiseInNumbers}
+use Rattle.rules.specs.Noninterference.{noneReaches}
+use Rattle.rules.proofs.All.{All, all-append, all-equal}
+use Rattle.rules.proofs.Rows.{in-list, found-code}
+
+-- ---- the seven
+
+-- row by row, whatever is held
+pub seven-rows : (h : Held) → map (λ r. reachesPast r h) rows ≡ map (λ r. isSeven (r .code) (getD (h .bytes) 1 0)) rows
+unfolding rows reaches isSeven oneOf
+seven-rows h = refl
+
+pub seven : Seven
+seven code r h e =
+    let row = in-list (λ r. reachesPast r h ≡ isSeven (r .code) (getD (h .bytes) 1 0)) (all-equal _ _ rows (seven-rows h)) code in
+    rw e at row ∙ ap (λ c. isSeven c (getD (h .bytes) 1 0)) (found-code code r e)
+
+-- ---- a subcommand
+
+module _ (v : View) (h : Held) where
+  erring-none : (r : Row) (f : Fault) → (f ≡ NoFault → ⊥) → (judged v r h f) .executed ≡ []
+  unfolding judged
+  erring-none r NoFault p = absurd (p refl)
+  erring-none r OffScreen p = refl
+  erring-none r UnknownCode p = refl
+  erring-none r TooManyParameters p = refl
+  erring-none r TooFewParameters p = refl
+  erring-none r BadValue p = refl
+  erring-none r BadMap p = refl
+
+  -- no command byte, or a code as it is looked up
+  known-none : (l : Listed) → rowOf (codeIn h) ≡ l → (looked v l h) .executed ≡ [] → (subcommand v h) .executed ≡ []
+  unfolding subcommand
+  known-none l e q = either (λ (s : Effect). s .executed ≡ []) (eqb (h .count) 0) (λ t. refl) (λ t. rw e q)
+
+  pub subcommand-executes : SubcommandExecutes v h
+  unfolding subcommand looked judged
+  subcommand-executes =
+      record {
+        itself = λ r e n f. rw (n, e, f);
+        no-error = λ r e f. known-none (listed r) e (erring-none r _ f);
+        no-code = λ e. known-none unlisted e refl;
+        no-byte = λ e. rw e;
+      }
+
+  -- ---- what the reader told
+
+  abbrev None : Effect → Type 0
+  None e = e .executed ≡ []
+
+  data-none : (b : ℕ) → None (hostData v b)
+  unfolding hostData hostCharacter
+  data-none b =
+      either None (printable b) (λ q. either None (cursorGuarded v) (λ q. refl) (λ q. refl))
+      (λ q. either None (eqb b 13) (λ q. refl)
+      (λ q. either None (eqb b 10) (λ q. refl) (λ q. either None (eqb b 8) (λ q. refl) (λ q. refl))))
+
+  negotiated-none : (verb : Verb) (option : ℕ) → None (negotiated v verb option)
+  unfolding negotiated
+  negotiated-none Will option = refl
+  negotiated-none Wont option = refl
+  negotiated-none Do option =
+      either None (not (eqb option detOption)) (λ q. refl) (λ q. either None (v .frame .det) (λ q. refl) (λ q. refl))
+  negotiated-none Dont option = either None (eqb option detOption && v .frame .det) (λ q. refl) (λ q. refl)
+
+  other-events : (e : Event) → ((option : ℕ) → e ≡ End option → ⊥) → None (happening v h e)
+  unfolding happening
+  other-events Nothing p = refl
+  other-events (Data b) p = data-none b
+  other-events (Negotiation verb option) p = negotiated-none verb option
+  other-events (Begin option) p = refl
+  other-events (Sub option b) p = refl
+  other-events (End option) p = absurd (p option refl)
+  other-events EndBare p = refl
+  other-events Lost p = refl
+
+  pub event-executes : EventExecutes v h
+  unfolding happening
+  event-executes =
+      record {
+        ended = λ e. rw e;
+        while-off = λ option e. rw (e, and-false (eqb option 20) false refl);
+        other-option = λ option e. rw e;
+        otherwise = other-events;
+      }
+
+-- ---- a call
+
+module _ (s : State) where
+  refused-none : (c : Call) → ((called s c) .answer .refusal ≡ Taken → ⊥) → executedBy s c ≡ []
+  unfolding called hostBytes unless executedBy
+  refused-none (host input reply) p =
+      true-or-false (isTaken (hostRefusal s reply)) (λ e. absurd (p (rw e))) (λ e. rw e)
+  refused-none (key k reply) p = refl
+
+  pub call-executes : CallExecutes s
+  unfolding called hostBytes unless hostByte running executedBy executedOf
+  call-executes =
+      record {
+        byte = λ b. refl;
+        no-bytes = refl;
+        more-bytes = λ b bs. refl;
+        taken = λ input reply. true-or-false (isTaken (hostRefusal s reply)) (λ e. rw e) (λ e. rw e);
+        a-key = λ k reply. refl;
+        refused = refused-none;
+        no-calls = refl;
+        more-calls = λ c cs. refl;
+      }
+
+-- ---- the premise of demand 3
+
+-- what is executed stands in the list, under the code that it came with
+abbrev Found : Executed → Type 0
+Found e = rowOf (codeIn (e .held)) ≡ listed (e .row)
+
+abbrev AllFound : Effect → Type 0
+AllFound e = All Found (e .executed)
+
+module _ (v : View) (h : Held) where
+  found-judged : (r : Row) → rowOf (codeIn h) ≡ listed r → (f : Fault) → AllFound (judged v r h f)
+  unfolding judged
+  found-judged r e NoFault = (e, tt)
+  found-judged r e OffScreen = tt
+  found-judged r e UnknownCode = tt
+  found-judged r e TooManyParameters = tt
+  found-judged r e TooFewParameters = tt
+  found-judged r e BadValue = tt
+  found-judged r e BadMap = tt
+
+  found-looked : (l : Listed) → rowOf (codeIn h) ≡ l → AllFound (looked v l h)
+  unfolding looked
+  found-looked unlisted e = tt
+  found-looked (listed r) e = found-judged r e _
+
+  found-subcommand : AllFound (subcommand v h)
+  unfolding subcommand
+  found-subcommand = either AllFound (eqb (h .count) 0) (λ q. tt) (λ q. found-looked _ refl)
+
+  found-event : (e : Event) → AllFound (happening v h e)
+  unfolding happening
+  found-event Nothing = tt
+  found-event (Data b) = rw (data-none v h b) tt
+  found-event (Negotiation verb option) = rw (negotiated-none v h verb option) tt
+  found-event (Begin option) = tt
+  found-event (Sub option b) = tt
+  found-event (End option) = either AllFound (eqb option detOption && v .frame .det) (λ q. found-subcommand) (λ q. tt)
+  found-event EndBare = tt
+  found-event Lost = tt
+
+found-run : (s : State) (bs : List ℕ) → All Found ((running s bs) .executed)
+unfolding running hostByte
+found-run s [] = tt
+found-run s (b ∷ bs) = all-append Found ((hostByte s b) .executed) _ (found-event _ _ _) (found-run _ bs)
+
+found-call : (s : State) (c : Call) → All Found (executedBy s c)
+unfolding executedBy
+found-call s (host input reply) = either (All Found) (isTaken (hostRefusal s reply)) (λ e. found-run s _) (λ e. tt)
+found-call s (key k reply) = tt
+
+found-calls : (s : State) (cs : List Call) → All Found (executedOf s cs)
+unfolding executedOf
+found-calls s [] = tt
+found-calls s (c ∷ cs) = all-append Found (executedBy s c) _ (found-call s c) (found-calls _ cs)
+
+in-numbers : (es : List Executed) → All Found es → noneReaches es ≡ noneSeven es
+unfolding noneReaches noneSeven
+in-numbers [] p = refl
+in-numbers (e ∷ es) p = ap₂ _&&_ (ap not (seven (codeIn (e .held)) (e .row) (e .held) (p .0))) (in-numbers es (p .1))
+
+pub premise-in-numbers : PremiseInNumbers
+premise-in-numbers s calls = in-numbers _ (found-calls s calls)

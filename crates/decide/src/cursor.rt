@@ -4,7 +4,18 @@ ghost use Prim.Native.Nat.{_*_, _-_, _<_, min};
 ghost use Rattle.screen.specs.Cells.{place, placeOf};
 ghost use Rattle.rules.specs.Session.{placed};
 ghost use Rattle.rules.specs.Command.{placeIn};
-ghost use Rattle.rules.specs.Cursor.{limited, oneMore, lineBelow, nextCell, homeCell, backTabCell, firstFieldCell, nextFieldCell, previousOpenCell, destination};
+ghost use Rattle.rules.specs.Cursor.{
+  limited,
+  oneMore,
+  lineBelow,
+  nextCell,
+  homeCell,
+  backTabCell,
+  firstFieldCell,
+  nextFieldCell,
+  previousOpenCell,
+  destination,
+};
 ghost use Rattle.command.specs.Frame.{seen};
 ghost use Rattle.command.specs.inner.Frame.{OnScreen, Fits};
 use command::frame::cursor_cell;

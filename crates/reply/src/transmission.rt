@@ -27,7 +27,8 @@ pub(crate) fn put_text(
     from: usize,
     end: usize,
 ) -> usize
-    ensures { λ r. ⌜ Wrote (now (reply .entry)) at (prefacePieces place ++ (textPiece from end (now (chars .entry)) ∷ [])) (now (reply .exit)) r ⌝ }
+    ensures { λ r. ⌜ Wrote (now (reply .entry)) at
+        (prefacePieces place ++ (textPiece from end (now (chars .entry)) ∷ [])) (now (reply .exit)) r ⌝ }
 {
     let next = put_preface(reply, at, place);
     copy_text(chars, reply, from, end, next)

@@ -13,9 +13,29 @@ use Rattle.screen.specs.Cells.{place, onScreen}
 use Rattle.rules.specs.declared.Held.{Held}
 use Rattle.rules.specs.declared.Facility.the-variants.{Editing, Erasing, Transmitting, Formatting}
 use Rattle.rules.specs.declared.Destination.the-variants.{Up, Down, Left, Right, Home, ReverseTab}
-use Rattle.rules.specs.declared.Area.the-variants.{WholeScreen, Unprotected, WholeLine, WholeField, RestOfScreen, RestOfLine, RestOfField}
+use Rattle.rules.specs.declared.Area.the-variants.{
+  WholeScreen,
+  Unprotected,
+  WholeLine,
+  WholeField,
+  RestOfScreen,
+  RestOfLine,
+  RestOfField,
+}
 use Rattle.rules.specs.declared.Command.{Command}
-use Rattle.rules.specs.declared.Command.the-variants.{Facilities, MoveCursor, Move, CharShift, ReadCursor, Transmit, Erase, FormatData, Repeat, SuppressProtection, Error}
+use Rattle.rules.specs.declared.Command.the-variants.{
+  Facilities,
+  MoveCursor,
+  Move,
+  CharShift,
+  ReadCursor,
+  Transmit,
+  Erase,
+  FormatData,
+  Repeat,
+  SuppressProtection,
+  Error,
+}
 use Rattle.rules.specs.declared.Code.{Code}
 use Rattle.rules.specs.declared.Code.the-variants.{Known, Unknown}
 use Rattle.rules.specs.declared.Fault.{Fault}

@@ -10,7 +10,22 @@ use Rattle.screen.specs.Fields.{opensAt, firstFrom, lastBefore}
 use Rattle.screen.specs.Scans.{nextOpen}
 use Rattle.rules.specs.declared.Frame.{Frame}
 use Rattle.rules.specs.declared.Destination.{Destination}
-use Rattle.rules.specs.declared.Destination.the-variants.{Up, Down, Left, Right, Corner, LineStart, NextLine, NextCell, Home, ReverseTab, FirstField, NextField, NextOpen, PreviousOpen}
+use Rattle.rules.specs.declared.Destination.the-variants.{
+  Up,
+  Down,
+  Left,
+  Right,
+  Corner,
+  LineStart,
+  NextLine,
+  NextCell,
+  Home,
+  ReverseTab,
+  FirstField,
+  NextField,
+  NextOpen,
+  PreviousOpen,
+}
 use Rattle.rules.specs.Session.{View, cursorCell, withCursor}
 
 -- is the cell of the cursor guarded

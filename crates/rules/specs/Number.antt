@@ -5,7 +5,15 @@ use Prim.Native.Nat.{ℕ}
 use Rattle.rules.specs.declared.Facility.{Facility}
 use Rattle.rules.specs.declared.Facility.the-variants.{Editing, Erasing, Transmitting, Formatting}
 use Rattle.rules.specs.declared.Fault.{Fault}
-use Rattle.rules.specs.declared.Fault.the-variants.{NoFault, UnknownCode, OffScreen, TooManyParameters, TooFewParameters, BadValue, BadMap}
+use Rattle.rules.specs.declared.Fault.the-variants.{
+  NoFault,
+  UnknownCode,
+  OffScreen,
+  TooManyParameters,
+  TooFewParameters,
+  BadValue,
+  BadMap,
+}
 
 -- the option DET
 abbrev pub detOption : ℕ

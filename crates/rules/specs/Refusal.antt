@@ -8,7 +8,18 @@ use Rattle.screen.specs.Words.{if_then_else_}
 use Rattle.rules.specs.declared.Frame.{Frame}
 use Rattle.rules.specs.declared.Session.{Session}
 use Rattle.rules.specs.declared.Refusal.{Refusal}
-use Rattle.rules.specs.declared.Refusal.the-variants.{Taken, Size, BufferLength, BadCharacter, BadSession, ReplyRoom, Guarded, WrongClass, DetOff, NoMeaning}
+use Rattle.rules.specs.declared.Refusal.the-variants.{
+  Taken,
+  Size,
+  BufferLength,
+  BadCharacter,
+  BadSession,
+  ReplyRoom,
+  Guarded,
+  WrongClass,
+  DetOff,
+  NoMeaning,
+}
 use Rattle.rules.specs.Session.{Screen, sizesOk, cells, replyRoom, allPrintable, sessionOk}
 
 -- the table's numbers; 0 where the call is taken

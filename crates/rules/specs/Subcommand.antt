@@ -16,11 +16,39 @@ use Rattle.screen.specs.Edits.{formatted}
 use Rattle.rules.specs.declared.Held.{Held}
 use Rattle.rules.specs.declared.Destination.the-variants.{Corner, LineStart, NextLine, FirstField}
 use Rattle.rules.specs.declared.Area.{Area}
-use Rattle.rules.specs.declared.Area.the-variants.{WholeScreen, Unprotected, WholeLine, WholeField, RestOfScreen, RestOfLine, RestOfField}
+use Rattle.rules.specs.declared.Area.the-variants.{
+  WholeScreen,
+  Unprotected,
+  WholeLine,
+  WholeField,
+  RestOfScreen,
+  RestOfLine,
+  RestOfField,
+}
 use Rattle.rules.specs.declared.Command.{Command}
-use Rattle.rules.specs.declared.Command.the-variants.{Facilities, MoveCursor, Move, CharShift, ReadCursor, Transmit, Erase, FormatData, Repeat, SuppressProtection, Error}
+use Rattle.rules.specs.declared.Command.the-variants.{
+  Facilities,
+  MoveCursor,
+  Move,
+  CharShift,
+  ReadCursor,
+  Transmit,
+  Erase,
+  FormatData,
+  Repeat,
+  SuppressProtection,
+  Error,
+}
 use Rattle.rules.specs.declared.Fault.{Fault}
-use Rattle.rules.specs.declared.Fault.the-variants.{NoFault, UnknownCode, OffScreen, TooManyParameters, TooFewParameters, BadValue, BadMap}
+use Rattle.rules.specs.declared.Fault.the-variants.{
+  NoFault,
+  UnknownCode,
+  OffScreen,
+  TooManyParameters,
+  TooFewParameters,
+  BadValue,
+  BadMap,
+}
 use Rattle.rules.specs.Session.{View, cursorCell, screenEnd, withCursor, withModes, withAttrs}
 use Rattle.rules.specs.Number.{cursorPosition, dataTransmit, suppressProtection, fieldSeparator, error, ownMap, faultNumber}
 use Rattle.rules.specs.Command.{Row, Listed, listed, unlisted, rowOf, codeIn, parameter, placeIn, formatCount, faultOf}

@@ -21,5 +21,10 @@ use Rattle.rules.specs.Operation.{happening, hostByte, running, unless, 
 use Rattle.rules.specs.Call.{called, answersOf, stateAfter, executedBy, executedOf}
 
 unfoldable pub computing : ℕ
-unfolding reader doubled subnegotiation negotiation firstOf lastOf tabulate protectedAt startsAt opensAt fieldStart fieldEnd spanEnd nextOpen deleted inserted shifted onPart erased formatted takes allPrintable sessionOk ownMap verdict sizeTests stateTests rows rowIn meaning reaches valueFault faultOf changed changedAll spelled spelledAll nextCell homeCell backTabCell firstFieldCell nextFieldCell previousOpenCell destination holding heldAfter negotiated hostCharacter hostCharacters hostData fieldTexts transmitted erasure suppressing obeyed judged looked subcommand keyOf needsOf keyTests pressed happening hostByte running unless takenOf hostBytes oneKey opened called answersOf stateAfter executedBy executedOf
+unfolding reader doubled subnegotiation negotiation firstOf lastOf tabulate protectedAt startsAt opensAt fieldStart fieldEnd spanEnd
+    nextOpen deleted inserted shifted onPart erased formatted takes allPrintable sessionOk ownMap verdict sizeTests stateTests rows
+    rowIn meaning reaches valueFault faultOf changed changedAll spelled spelledAll nextCell homeCell backTabCell firstFieldCell
+    nextFieldCell previousOpenCell destination holding heldAfter negotiated hostCharacter hostCharacters hostData fieldTexts
+    transmitted erasure suppressing obeyed judged looked subcommand keyOf needsOf keyTests pressed happening hostByte running unless
+    takenOf hostBytes oneKey opened called answersOf stateAfter executedBy executedOf
 computing = 0

@@ -107,16 +107,16 @@ dataSeen on b = look (called (resting on) (host (b ∷ []) (replicate 44 lent)))
 
 -- ---- every value of a parameter
 
--- "ab" over "cd", nothing protected, the cursor at (0,0), and a command whose bytes are held: SE ends it. The least reply room is 30.
+-- "ab", nothing protected, the cursor at (0,0), and a command whose bytes are held: SE ends it. The least reply room is 16.
 abbrev small : State
-small = starting 2 2 false (characters "abcd") (replicate 4 0) 0 0
+small = starting 2 1 false (characters "ab") (replicate 2 0) 0 0
 
 abbrev ended : List ℕ → Seen
-ended held = look (called (reading (InsideIac 20) held small) (host (240 ∷ []) (replicate 30 lent)))
+ended held = look (called (reading (InsideIac 20) held small) (host (240 ∷ []) (replicate 16 lent)))
 
 -- what it leaves and answers; an ERROR with its number
 abbrev does : (State → State) → List ℕ → Seen
-does leaves reply = seen 0 1 (leaves small) reply 30
+does leaves reply = seen 0 1 (leaves small) reply 16
 
 abbrev errs : ℕ → ℕ → Seen
 errs code number = does unchanged (det (41 ∷ code ∷ number ∷ []))
@@ -129,14 +129,13 @@ sweeps =
     ∷ sweep "every key, DET off" (keySeen false) (keyDoes false)
     ∷ sweep "every byte of host data, DET on" (dataSeen true) (dataDoes true)
     ∷ sweep "every byte of host data, DET off" (dataSeen false) (dataDoes false)
-    ∷ sweep "5 with every x and y" (λ n. ended (5 ∷ n ∷ n ∷ []))
-    (λ n. does (at (min n 1) (min n 1)) (if leb n 1 then [] else det (41 ∷ 5 ∷ 3 ∷ [])))
+    ∷ sweep "5 with every x" (λ n. ended (5 ∷ n ∷ 0 ∷ [])) (λ n. does (at (min n 1) 0) (if leb n 1 then [] else det (41 ∷ 5 ∷ 3 ∷ [])))
     ∷ sweep "36 with every first map byte" (λ n. ended (36 ∷ n ∷ 0 ∷ 0 ∷ 2 ∷ []))
-    (λ n. if leb n 31 then does (attributed (n ∷ n ∷ 0 ∷ 0 ∷ [])) [] else errs 36 12)
+    (λ n. if leb n 31 then does (attributed (n ∷ n ∷ [])) [] else errs 36 12)
     ∷ sweep "36 with every second map byte" (λ n. ended (36 ∷ 9 ∷ n ∷ 0 ∷ 1 ∷ []))
-    (λ n. if eqb n 0 then does (attributed (9 ∷ 0 ∷ 0 ∷ 0 ∷ [])) [] else errs 36 12)
+    (λ n. if eqb n 0 then does (attributed (9 ∷ 0 ∷ [])) [] else errs 36 12)
     ∷ sweep "37 with every character" (λ n. ended (37 ∷ 1 ∷ n ∷ []))
-    (λ n. if between 32 126 n then does (λ s. at 1 0 (showing (n ∷ characters "bcd") s)) [] else errs 37 11)
+    (λ n. if between 32 126 n then does (λ s. at 1 0 (showing (n ∷ characters "b") s)) [] else errs 37 11)
     ∷ sweep "38 with every value" (λ n. ended (38 ∷ n ∷ []))
     (λ n.
     if eqb n 253 then does (modes true true) (det (38 ∷ 251 ∷ []))

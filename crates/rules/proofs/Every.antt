@@ -2,27 +2,29 @@
 use mathlib.Core.Path.{_≡_, refl, ap, _∙_}
 use mathlib.Core.Bool.{Bool, true, false}
 use mathlib.Core.List.{List, [], _∷_, _++_}
-use Prim.Native.Nat.{ℕ, _-_, _<_}
+use Prim.Native.Nat.{ℕ, _-_, _<_, min}
 use borrow.Author.Tests.{eqb-true}
-use lib.Dec.{eqb}
+use lib.Dec.{leb, eqb}
 use lib.ListN.{replicate}
-use Rattle.telnet.specs.declared.Phase.the-variants.{Iac}
+use Rattle.telnet.specs.declared.Phase.the-variants.{Iac, InsideIac}
 use Rattle.telnet.specs.declared.Verb.the-variants.{Will, Wont, Do, Dont}
 use Rattle.telnet.specs.Writer.{subnegotiation, negotiation}
 use Rattle.screen.specs.Words.{if_then_else_, between}
 use Rattle.rules.specs.declared.Held.{Held}
+use Rattle.rules.specs.declared.Facility.the-variants.{Editing, Erasing, Transmitting, Formatting}
+use Rattle.rules.specs.declared.Command.the-variants.{Facilities, Error}
 use Rattle.rules.specs.Session.{View, State, screen, withModes}
 use Rattle.rules.specs.Refusal.{numberOf}
 use Rattle.rules.specs.Effect.{bytes, saying, quiet}
 use Rattle.rules.specs.Command.{Listed, listed, unlisted, rowOf, codeIn}
 use Rattle.rules.specs.Telnet.{negotiated}
-use Rattle.rules.specs.Subcommand.{looked, subcommand}
+use Rattle.rules.specs.Subcommand.{obeyed, looked, subcommand}
 use Rattle.rules.specs.Operation.{opened}
 use Rattle.rules.specs.Call.{host, key, called}
 use Rattle.rules.specs.Executed.{oneOf}
 use Rattle.rules.specs.cases.Computing.{computing}
-use Rattle.rules.specs.cases.Vocabulary.{Seen, look, lent, seen, same, sameSeen, failures, characters, starting, at, modes, reading, showing, unchanged, seeing}
-use Rattle.rules.proofs.Passing.{same-equal, seen-equal, below-passes}
+use Rattle.rules.specs.cases.Vocabulary.{Seen, look, lent, seen, same, failures, Sweep, sweep, SweepsPass, characters, starting, at, modes, reading, showing, attributed, unchanged, seeing}
+use Rattle.rules.proofs.Passing.{same-equal, below-passes, EachEverywhere, each-everywhere}
 -- the worked cases are checked first
 use Rattle.rules.proofs.Shut.{shut-holds}
 
@@ -82,30 +84,18 @@ keyDoes on k =
 abbrev keySeen : Bool → ℕ → Seen
 keySeen on k = look (called (keyed on) (key k (replicate 23 lent)))
 
-keys-on : failures (λ k. sameSeen (keySeen true k) (keyDoes true k)) 256 ≡ []
-unfolding computing seeing keyDoes
-keys-on = refl
-
-keys-off : failures (λ k. sameSeen (keySeen false k) (keyDoes false k)) 256 ≡ []
-unfolding computing seeing keyDoes
-keys-off = refl
-
-pub every-key : (on : Bool) (k : ℕ) → k < 256 → keySeen on k ≡ keyDoes on k
-every-key true k h = seen-equal _ _ (below-passes _ 256 keys-on k h)
-every-key false k h = seen-equal _ _ (below-passes _ 256 keys-off k h)
-
 -- ---- every byte of host data at rest
 
--- four cells by two, nothing protected, the cursor on "c", DET on or off; the least reply room is 58
+-- three cells by two, nothing protected, the cursor on "c", DET on or off; the least reply room is 44
 abbrev resting : Bool → State
-resting on = modes on false (starting 4 2 false (characters "abcdefgh") (replicate 8 0) 2 0)
+resting on = modes on false (starting 3 2 false (characters "abcdef") (replicate 6 0) 2 0)
 
 -- written; CR, LF, BS; IAC begins a command; other data does nothing
 unfoldable pub dataDoes : Bool → ℕ → Seen
 dataDoes on b =
     let s = resting on in
-    let leaves : State → Seen = λ t. seen 0 1 t [] 58 in
-    if between 32 126 b then leaves (at 3 0 (showing (97 ∷ 98 ∷ b ∷ characters "defgh") s))
+    let leaves : State → Seen = λ t. seen 0 1 t [] 44 in
+    if between 32 126 b then leaves (at 0 1 (showing (97 ∷ 98 ∷ b ∷ characters "def") s))
     else if eqb b 13 then leaves (at 0 0 s)
     else if eqb b 10 then leaves (at 2 1 s)
     else if eqb b 8 then leaves (at 1 0 s)
@@ -113,19 +103,67 @@ dataDoes on b =
     else leaves s
 
 abbrev dataSeen : Bool → ℕ → Seen
-dataSeen on b = look (called (resting on) (host (b ∷ []) (replicate 58 lent)))
+dataSeen on b = look (called (resting on) (host (b ∷ []) (replicate 44 lent)))
 
-data-on : failures (λ b. sameSeen (dataSeen true b) (dataDoes true b)) 256 ≡ []
-unfolding computing seeing dataDoes
-data-on = refl
+-- ---- every value of a parameter
 
-data-off : failures (λ b. sameSeen (dataSeen false b) (dataDoes false b)) 256 ≡ []
-unfolding computing seeing dataDoes
-data-off = refl
+-- "ab", nothing protected, the cursor at (0,0), and a command whose bytes are held: SE ends it. The least reply room is 16.
+abbrev small : State
+small = starting 2 1 false (characters "ab") (replicate 2 0) 0 0
 
-pub every-data-byte : (on : Bool) (b : ℕ) → b < 256 → dataSeen on b ≡ dataDoes on b
-every-data-byte true b h = seen-equal _ _ (below-passes _ 256 data-on b h)
-every-data-byte false b h = seen-equal _ _ (below-passes _ 256 data-off b h)
+abbrev ended : List ℕ → Seen
+ended held = look (called (reading (InsideIac 20) held small) (host (240 ∷ []) (replicate 16 lent)))
+
+-- what it leaves and answers; an ERROR with its number
+abbrev does : (State → State) → List ℕ → Seen
+does leaves reply = seen 0 1 (leaves small) reply 16
+
+abbrev errs : ℕ → ℕ → Seen
+errs code number = does unchanged (det (41 ∷ code ∷ number ∷ []))
+
+-- ---- the sweeps
+
+unfoldable pub sweeps : List Sweep
+sweeps =
+    sweep "every key, DET on" (keySeen true) (keyDoes true)
+    ∷ sweep "every key, DET off" (keySeen false) (keyDoes false)
+    ∷ sweep "every byte of host data, DET on" (dataSeen true) (dataDoes true)
+    ∷ sweep "every byte of host data, DET off" (dataSeen false) (dataDoes false)
+    ∷ sweep "5 with every x" (λ n. ended (5 ∷ n ∷ 0 ∷ [])) (λ n. does (at (min n 1) 0) (if leb n 1 then [] else det (41 ∷ 5 ∷ 3 ∷ [])))
+    ∷ sweep "36 with every first map byte" (λ n. ended (36 ∷ n ∷ 0 ∷ 0 ∷ 2 ∷ []))
+    (λ n. if leb n 31 then does (attributed (n ∷ n ∷ [])) [] else errs 36 12)
+    ∷ sweep "36 with every second map byte" (λ n. ended (36 ∷ 9 ∷ n ∷ 0 ∷ 1 ∷ []))
+    (λ n. if eqb n 0 then does (attributed (9 ∷ 0 ∷ [])) [] else errs 36 12)
+    ∷ sweep "37 with every character" (λ n. ended (37 ∷ 1 ∷ n ∷ []))
+    (λ n. if between 32 126 n then does (λ s. at 1 0 (showing (n ∷ characters "b") s)) [] else errs 37 11)
+    ∷ sweep "38 with every value" (λ n. ended (38 ∷ n ∷ []))
+    (λ n.
+    if eqb n 253 then does (modes true true) (det (38 ∷ 251 ∷ []))
+    else if eqb n 251 then does unchanged (det (38 ∷ 254 ∷ []))
+    else if between 252 254 n then does unchanged []
+    else errs 38 11)
+    ∷ []
+
+sweeps-pass : SweepsPass sweeps
+unfolding computing seeing sweeps keyDoes dataDoes
+sweeps-pass = (tt, (tt, (tt, (tt, (tt, (tt, (tt, (tt, (tt, tt)))))))))
+
+pub every-byte : EachEverywhere sweeps
+every-byte = each-everywhere sweeps sweeps-pass
+
+-- ---- whatever the parameters
+
+-- 1 to 4 answer the terminal's own map and 41 nothing, whatever their parameters are, on every view
+pub record Constant (v : View) (h : Held) : Type 0 where
+  pub edit-map : obeyed v (Facilities Editing) h ≡ saying v (bytes (det (1 ∷ 54 ∷ [])) ∷ [])
+  pub erase-map : obeyed v (Facilities Erasing) h ≡ saying v (bytes (det (2 ∷ 31 ∷ [])) ∷ [])
+  pub transmit-map : obeyed v (Facilities Transmitting) h ≡ saying v (bytes (det (3 ∷ 63 ∷ [])) ∷ [])
+  pub format-map : obeyed v (Facilities Formatting) h ≡ saying v (bytes (det (4 ∷ 144 ∷ 121 ∷ [])) ∷ [])
+  pub error-nothing : obeyed v Error h ≡ quiet v
+
+pub every-map : (v : View) (h : Held) → Constant v h
+unfolding computing
+every-map v h = record { edit-map = refl; erase-map = refl; transmit-map = refl; format-map = refl; error-nothing = refl }
 
 -- ---- every option, with each verb, DET on or off, protection suppressed or not
 

@@ -16,7 +16,7 @@ use Rattle.screen.specs.Words.{if_then_else_}
 use Rattle.screen.specs.Cells.{place}
 use Rattle.screen.proofs.WordLaws.{not-both, true-or-false, less-or-not, and-left, and-right}
 use Rattle.rules.specs.Session.{session, screen, state}
-use Rattle.rules.specs.cases.Vocabulary.{Seen, Case, bit, phaseNumbers, numbers, same, sameSeen, sameAll, Fails, Passes, failures, observed, expected}
+use Rattle.rules.specs.cases.Vocabulary.{Seen, Case, bit, phaseNumbers, numbers, same, sameSeen, sameAll, Fails, Passes, failures, Sweep, wrongBytes, ifNone, SweepsPass, Everywhere, observed, expected}
 
 -- ---- what is seen, from its numbers and lists
 
@@ -85,7 +85,7 @@ same-equal [] (y ∷ ys) e = not-both false e refl
 same-equal (x ∷ xs) [] e = not-both false e refl
 same-equal (x ∷ xs) (y ∷ ys) e = ap₂ _∷_ (eqb-true x y (and-left _ _ e)) (same-equal xs ys (and-right (eqb x y) _ e))
 
-pub seen-equal : (a b : Seen) → sameSeen a b ≡ true → a ≡ b
+seen-equal : (a b : Seen) → sameSeen a b ≡ true → a ≡ b
 unfolding sameSeen
 seen-equal a b e =
     let e1 = and-right (same (numbers a) (numbers b)) _ e in
@@ -131,3 +131,19 @@ below-passes test (suc n) e k h =
     true-or-false (test n)
     (λ t. less-or-not k n (λ l. below-passes test n (rw t at e) k l) (λ l. let q : k ≡ n = omega arith in rw q t))
     (λ t. absurd (omega (arith, ap length (rw t at e))))
+
+-- a sweep that passes shows with each byte what is expected of it
+none-wrong : (ns : List ℕ) (title : String) → ifNone ns title → ns ≡ []
+none-wrong [] title p = refl
+none-wrong (n ∷ ns) title p = fails-not p
+
+sweep-holds : (w : Sweep) → ifNone (wrongBytes w) (w .title) → Everywhere w
+sweep-holds w p n h = seen-equal _ _ (below-passes _ 256 (none-wrong (wrongBytes w) (w .title) p) n h)
+
+abbrev pub EachEverywhere : List Sweep → Type 0
+EachEverywhere [] = Unit {0}
+EachEverywhere (w ∷ ws) = Everywhere w × EachEverywhere ws
+
+pub each-everywhere : (ws : List Sweep) → SweepsPass ws → EachEverywhere ws
+each-everywhere [] p = tt
+each-everywhere (w ∷ ws) p = (sweep-holds w (p .0), each-everywhere ws (p .1))

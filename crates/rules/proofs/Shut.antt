@@ -275,13 +275,14 @@ edits =
     ∷ lifted "29 leaves protection suppressed" 3 1 (erasesAll ∷ [])
     ∷ free "37 writes as host data, at the last cell too" 2 1
     (reads (det (37 ∷ 3 ∷ 0x78 ∷ [])) (see 3 1 "abcdefxx") [] ∷ reads (det (37 ∷ 1 ∷ 0x79 ∷ [])) (see 3 1 "abcdefxy") [] ∷ [])
+    ∷ free "37 writes 255 times" 1 0 (reads (det (37 ∷ 255 ∷ 255 ∷ 0x78 ∷ [])) (see 3 1 "axxxxxxx") [] ∷ [])
     ∷ form "37 no times; ERROR 11" 2 0
     (hears (det (37 ∷ 0 ∷ 0x78 ∷ [])) [] ∷ errs 11 37 (0 ∷ 31 ∷ []) ∷ errs 11 37 (1 ∷ 127 ∷ []) ∷ [])
     ∷ []
 
 pub edits-pass : Passes edits
 unfolding computing seeing edits
-edits-pass = (tt, (tt, (tt, (tt, (tt, (tt, (tt, (tt, (tt, (tt, (tt, (tt, (tt, (tt, (tt, (tt, (tt, (tt, tt))))))))))))))))))
+edits-pass = (tt, (tt, (tt, (tt, (tt, (tt, (tt, (tt, (tt, (tt, (tt, (tt, (tt, (tt, (tt, (tt, (tt, (tt, (tt, tt)))))))))))))))))))
 
 -- ---- FORMAT DATA
 
@@ -365,6 +366,8 @@ telnet =
     ∷ case "held bytes 0 again after one thrown away" (holds (1 ∷ 2 ∷ 3 ∷ []))
     (reads (0xff ∷ 0xfa ∷ 0xff ∷ 0xf1 ∷ []) (reading Rest []) [] ∷ [])
     ∷ case "held bytes 0 again after another option's" off (hears (0xff ∷ 0xfa ∷ 21 ∷ 7 ∷ 0xff ∷ 0xf0 ∷ []) [] ∷ [])
+    ∷ case "data and negotiation leave held bytes" (holds (1 ∷ 2 ∷ 3 ∷ []))
+    (reads (characters "x") (see 3 0 "ABxdeFGH") [] ∷ hears (verb 253 3) (verb 252 3) ∷ hears (0xff ∷ 0xf1 ∷ []) [] ∷ [])
     -- two questions, each answered with 8 bytes: with room 65 there are 57 left after the first, one too few; with 66 there are 58
     ∷ form "not taken with 7C + 1 bytes free" 2 0 (hostTrial 65 (det (17 ∷ []) ++ det (17 ∷ [])) 6 unchanged (det (18 ∷ 2 ∷ 0 ∷ [])) ∷ [])
     ∷ form "taken with 7C + 2 bytes free" 2 0
@@ -373,7 +376,7 @@ telnet =
 
 pub telnet-pass : Passes telnet
 unfolding computing seeing telnet
-telnet-pass = (tt, (tt, (tt, (tt, (tt, (tt, (tt, (tt, (tt, (tt, (tt, (tt, (tt, (tt, (tt, (tt, (tt, tt)))))))))))))))))
+telnet-pass = (tt, (tt, (tt, (tt, (tt, (tt, (tt, (tt, (tt, (tt, (tt, (tt, (tt, (tt, (tt, (tt, (tt, (tt, tt))))))))))))))))))
 
 -- ---- negotiation and host data
 

@@ -1,7 +1,8 @@
 -- Worked cases. A case has a title, a start, and calls one after the other with all that each is to return and to leave.
+use mathlib.Core.Path.{_≡_}
 use mathlib.Core.Bool.{Bool, true, false, _&&_}
 use mathlib.Core.List.{List, [], _∷_, _++_, map}
-use Prim.Native.Nat.{ℕ, zero, suc, _-_}
+use Prim.Native.Nat.{ℕ, zero, suc, _-_, _<_}
 use Prim.Native.Char.{code}
 use Prim.Native.String.{String}
 use Prim.Native.String as string
@@ -152,6 +153,31 @@ Passes (c ∷ cs) = (if sameAll (c .observed) (c .expected) then Unit {0} else F
 unfoldable pub failures : (ℕ → Bool) → ℕ → List ℕ
 failures test zero = []
 failures test (suc n) = let rest = failures test n in if test n then rest else n ∷ rest
+
+-- ---- sweeps: a sentence over all bytes, what is seen with each and what is to be seen
+
+pub record Sweep : Type 0 where
+  pub title : String
+  pub seen : ℕ → Seen
+  pub shows : ℕ → Seen
+
+abbrev pub sweep : String → (ℕ → Seen) → (ℕ → Seen) → Sweep
+sweep title seen shows = record { title = title; seen = seen; shows = shows }
+
+-- the bytes that show something else
+abbrev pub wrongBytes : Sweep → List ℕ
+wrongBytes w = failures (λ n. sameSeen (w .seen n) (w .shows n)) 256
+
+abbrev pub ifNone : List ℕ → String → Type 0
+ifNone [] title = Unit {0}
+ifNone (n ∷ ns) title = Fails title
+
+abbrev pub SweepsPass : List Sweep → Type 0
+SweepsPass [] = Unit {0}
+SweepsPass (w ∷ ws) = ifNone (wrongBytes w) (w .title) × SweepsPass ws
+
+abbrev pub Everywhere : Sweep → Type 0
+Everywhere w = (n : ℕ) → n < 256 → w .seen n ≡ w .shows n
 
 -- ---- states
 

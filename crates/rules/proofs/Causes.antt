@@ -1,6 +1,6 @@
 -- Nothing but what document 01 names changes the attribute bytes, DET, suppression, the characters or the cursor.
-use mathlib.Core.Path.{_≡_, refl, sym, ap, _∙_}
-use mathlib.Core.Bool.{Bool, true, false, not, _&&_, _||_}
+use mathlib.Core.Path.{_≡_, refl, sym, _∙_}
+use mathlib.Core.Bool.{Bool, true, false, not, _&&_}
 use mathlib.Core.List.{List, [], _∷_, map}
 use Prim.Native.Nat.{ℕ, zero, suc, _+_}
 use borrow.Author.Tests.{not-true, not-false}
@@ -10,22 +10,18 @@ use Rattle.telnet.specs.declared.Verb.{Verb}
 use Rattle.telnet.specs.declared.Verb.the-variants.{Will, Wont, Do, Dont}
 use Rattle.telnet.specs.declared.Event.{Event}
 use Rattle.telnet.specs.declared.Event.the-variants.{Nothing, Data, Negotiation, Begin, Sub, End, EndBare, Lost}
-use Rattle.telnet.specs.Reader.{verbCode, readOf}
+use Rattle.telnet.specs.Reader.{readOf}
 use Rattle.screen.specs.declared.cell.Place.{Place}
 use Rattle.screen.specs.Words.{if_then_else_, between}
 use Rattle.screen.proofs.WordLaws.{either, true-or-false, not-both, and-left, and-right}
 use Rattle.rules.specs.declared.Held.{Held}
 use Rattle.rules.specs.declared.Reader.{Reader}
-use Rattle.rules.specs.declared.Area.{Area}
-use Rattle.rules.specs.declared.Area.the-variants.{Unprotected}
 use Rattle.rules.specs.declared.Command.{Command}
 use Rattle.rules.specs.declared.Command.the-variants.{Facilities, MoveCursor, Move, CharShift, ReadCursor, Transmit, Erase, FormatData, Repeat, SuppressProtection, Error}
 use Rattle.rules.specs.declared.Fault.{Fault}
 use Rattle.rules.specs.declared.Fault.the-variants.{NoFault, UnknownCode, OffScreen, TooManyParameters, TooFewParameters, BadValue, BadMap}
 use Rattle.rules.specs.declared.Key.{Key}
-use Rattle.rules.specs.declared.Key.the-variants.{Typed, Back, Tab, Send, Delete, Function, Meaningless}
 use Rattle.rules.specs.Session.{View, State, printable, viewOf, cursorCell, screenEnd, withCursor, withModes, withAttrs}
-use Rattle.rules.specs.Number.{detOption}
 use Rattle.rules.specs.Effect.{Effect, Executed, Change, Part, changedAll, changing, saying, quiet}
 use Rattle.rules.specs.Command.{Row, rows, Listed, listed, unlisted, rowOf, codeIn, parameter, formatCount, valueFault, faultOf}
 use Rattle.rules.specs.Cursor.{cursorGuarded}
@@ -34,11 +30,12 @@ use Rattle.rules.specs.Subcommand.{transmitted, erasure, suppressing, ob
 use Rattle.rules.specs.Key.{keyOf, pressed}
 use Rattle.rules.specs.Refusal.{isTaken}
 use Rattle.rules.specs.Operation.{happening, hostByte, applied, running, unless, hostBytes, hostRefusal, oneKey, keyRefusal}
-use Rattle.rules.specs.Call.{Call, host, key, called}
+use Rattle.rules.specs.Call.{host, key, called}
 use Rattle.rules.specs.Executed.{oneOf}
-use Rattle.rules.specs.Causes.{Aspect, attributes, det, suppression, characters, cursor, Same, changers, Cause, byte, execution, failure, negotiation, keystroke, nothing, mayChange, commandCause, causeOf, causesIn, causesOf, noneChanges, NothingElse, ReaderKept}
+use Rattle.rules.specs.Causes.{Aspect, attributes, det, suppression, characters, cursor, Same, changers, byte, execution, negotiation, keystroke, mayChange, commandCause, causeOf, causesIn, causesOf, noneChanges, NothingElse, ReaderKept}
 use Rattle.rules.proofs.All.{All, all-append, all-equal}
-use Rattle.rules.proofs.Rows.{IfListed, in-list, found-code}
+use Rattle.rules.proofs.Rows.{in-list, found-code}
+-- what a call executes is checked first
 use Rattle.rules.proofs.Executed.{seven}
 
 -- what an effect leaves as it was, where it may not change

@@ -16,6 +16,7 @@ use Rattle.rules.specs.Causes.{Aspect, attributes, det, suppression, cha
 use Rattle.rules.specs.cases.Computing.{computing}
 use Rattle.rules.specs.cases.Vocabulary.{bit, same, failures, starting, modes, seeing}
 use Rattle.rules.specs.cases.Vocabulary as word
+-- that nothing else changes it is checked first
 use Rattle.rules.proofs.Causes.{nothing-else}
 
 -- four cells by three with this text, three fields of one line each, the cursor at (1,1), DET on and protection suppressed

@@ -1,6 +1,6 @@
 -- The premise of demand 3: the seven by their numbers, and what a call executes.
 use mathlib.Core.Path.{_≡_, refl, ap, ap₂, _∙_}
-use mathlib.Core.Bool.{Bool, true, false, not, _&&_}
+use mathlib.Core.Bool.{false, not, _&&_}
 use mathlib.Core.List.{List, [], _∷_, map}
 use Prim.Native.Nat.{ℕ}
 use lib.Dec.{eqb}
@@ -9,12 +9,11 @@ use Rattle.telnet.specs.declared.Verb.{Verb}
 use Rattle.telnet.specs.declared.Verb.the-variants.{Will, Wont, Do, Dont}
 use Rattle.telnet.specs.declared.Event.{Event}
 use Rattle.telnet.specs.declared.Event.the-variants.{Nothing, Data, Negotiation, Begin, Sub, End, EndBare, Lost}
-use Rattle.screen.proofs.WordLaws.{either, not-both, true-or-false, and-false}
+use Rattle.screen.proofs.WordLaws.{either, true-or-false, and-false}
 use Rattle.rules.specs.declared.Held.{Held}
 use Rattle.rules.specs.declared.Fault.{Fault}
 use Rattle.rules.specs.declared.Fault.the-variants.{NoFault, UnknownCode, OffScreen, TooManyParameters, TooFewParameters, BadValue, BadMap}
-use Rattle.rules.specs.declared.Refusal.{Refusal}
-use Rattle.rules.specs.declared.Refusal.the-variants.{Taken, Size, BufferLength, BadCharacter, BadSession, ReplyRoom, Guarded, WrongClass, DetOff, NoMeaning}
+use Rattle.rules.specs.declared.Refusal.the-variants.{Taken}
 use Rattle.rules.specs.Number.{detOption}
 use Rattle.rules.specs.Session.{View, State, printable}
 use Rattle.rules.specs.Refusal.{isTaken}
@@ -23,7 +22,7 @@ use Rattle.rules.specs.Command.{Row, rows, Listed, listed, unlisted, row
 use Rattle.rules.specs.Cursor.{cursorGuarded}
 use Rattle.rules.specs.Telnet.{negotiated, hostCharacter, hostData}
 use Rattle.rules.specs.Subcommand.{judged, looked, subcommand}
-use Rattle.rules.specs.Operation.{happening, hostByte, running, unless, hostBytes, hostRefusal, oneKey, keyRefusal}
+use Rattle.rules.specs.Operation.{happening, hostByte, running, unless, hostBytes, hostRefusal}
 use Rattle.rules.specs.Call.{Call, host, key, called, executedBy, executedOf}
 use Rattle.rules.specs.Executed.{oneOf, isSeven, Seven, SubcommandExecutes, EventExecutes, CallExecutes, noneSeven, PremiseInNumbers}
 use Rattle.rules.specs.Noninterference.{noneReaches}

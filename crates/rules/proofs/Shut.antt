@@ -6,7 +6,6 @@ use mathlib.Core.List.{List, [], _∷_, _++_, map}
 use Prim.Native.Nat.{ℕ, _*_}
 use Prim.Native.String.{String}
 use lib.ListN.{length, getD, replicate}
-use Rattle.telnet.specs.declared.Phase.{Phase}
 use Rattle.telnet.specs.declared.Phase.the-variants.{Rest, Iac, Negotiating, Opening, OpeningIac, Inside, InsideIac}
 use Rattle.telnet.specs.declared.Verb.the-variants.{Do}
 use Rattle.rules.specs.Session.{State, screen}

@@ -1,5 +1,5 @@
 -- Document 01, "Worked forms": P1 to P10, one list of cases and one theorem over it.
-use mathlib.Core.Path.{_≡_, refl}
+use mathlib.Core.Path.{_≡_}
 use mathlib.Core.Bool.{false}
 use mathlib.Core.List.{List, [], _∷_, _++_}
 use Prim.Native.Nat.{ℕ}

@@ -14,7 +14,7 @@ use Rattle.rules.specs.declared.Refusal.the-variants.{Taken}
 use Rattle.rules.specs.declared.Fault.the-variants.{NoFault}
 use Rattle.rules.specs.Session.{View, State, viewOf}
 use Rattle.rules.specs.Effect.{Executed}
-use Rattle.rules.specs.Command.{Row, Listed, listed, unlisted, rowOf, codeIn, reachesPast, faultOf}
+use Rattle.rules.specs.Command.{Row, listed, unlisted, rowOf, codeIn, reachesPast, faultOf}
 use Rattle.rules.specs.Subcommand.{subcommand}
 use Rattle.rules.specs.Operation.{happening, hostByte, running}
 use Rattle.rules.specs.Call.{Call, host, key, called, left, executedBy, executedOf}

@@ -101,7 +101,7 @@ fn keys(counts: &Both) -> Vec<Row> {
     };
     let any = |(_, name)| {
         let slowest = |counts: &Counts| keys::slowest(counts, name, SMALL);
-        key("on any screen: ", name, &slowest)
+        key("the slowest of ten screens: ", name, &slowest)
     };
     let mut rows: Vec<Row> = KEYS.into_iter().map(any).collect();
     let on_form = |counts: &Counts| keys::on(counts, SEND, SMALL, &FORM);

@@ -6,6 +6,8 @@ use crate::streams::{negotiation, subcommand, DO, DONT, WILL};
 /// The most that REPEAT can be asked for without a doubled IAC.
 const MOST: u8 = 254;
 
+const FACILITIES: &str = "TRANSMIT FACILITIES (3)";
+
 pub struct Command {
     pub name: &'static str,
     /// On a screen of this size, with the cursor on this cell.
@@ -15,7 +17,7 @@ pub struct Command {
 impl Command {
     /// Whether cells are what it answers with.
     pub fn transmits(&self) -> bool {
-        self.name.starts_with("TRANSMIT ")
+        self.name.starts_with("TRANSMIT ") && self.name != FACILITIES
     }
 }
 
@@ -52,10 +54,18 @@ const ALONE: [Command; 24] = alone! {
     254 "an unknown code"
 };
 
-const WITH_PARAMETERS: [Command; 15] = [
+const WITH_PARAMETERS: [Command; 21] = [
     Command {
         name: "EDIT FACILITIES (1)",
         bytes: |_, _| subcommand(&[1, 0]),
+    },
+    Command {
+        name: "ERASE FACILITIES (2)",
+        bytes: |_, _| subcommand(&[2, 0]),
+    },
+    Command {
+        name: FACILITIES,
+        bytes: |_, _| subcommand(&[3, 0]),
     },
     Command {
         name: "FORMAT FACILITIES (4)",
@@ -90,6 +100,18 @@ const WITH_PARAMETERS: [Command; 15] = [
         bytes: |_, _| subcommand(&[38, DONT]),
     },
     Command {
+        name: "SUPPRESS PROTECTION (38), WILL",
+        bytes: |_, _| subcommand(&[38, WILL]),
+    },
+    Command {
+        name: "ERROR (41)",
+        bytes: |_, _| subcommand(&[41, 0, 0]),
+    },
+    Command {
+        name: "too many parameters",
+        bytes: |_, _| subcommand(&[29, 0, 0, 0, 0]),
+    },
+    Command {
         name: "IAC DO 20",
         bytes: |_, _| negotiation(DO, 20),
     },
@@ -104,6 +126,10 @@ const WITH_PARAMETERS: [Command; 15] = [
     Command {
         name: "a character",
         bytes: |_, _| b"x".to_vec(),
+    },
+    Command {
+        name: "a carriage return",
+        bytes: |_, _| b"\r".to_vec(),
     },
     Command {
         name: "a line feed",

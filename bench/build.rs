@@ -7,16 +7,20 @@ use std::process::{Command, Stdio};
 
 /// A peer: the name of its library, which is also its cfg flag's; its header;
 /// its shim.
-const PEERS: [(&str, &str, &str); 2] = [
+const PEERS: [(&str, &str, &str); 3] = [
     ("telnet", "libtelnet.h", "peers/telnet.c"),
     ("vterm", "vterm.h", "peers/vterm.c"),
+    ("tsm", "libtsm.h", "peers/tsm.c"),
 ];
 
 fn main() {
     // No such file: run each time, since a peer may have come or gone.
     println!("cargo::rerun-if-changed=peers/each-time");
     link_tally();
-    compile("stack", "src/c/stack.c");
+    name_compiler();
+    for shim in ["stack", "mark", "floor"] {
+        compile(shim, &format!("src/c/{shim}.c"));
+    }
     for (library, header, shim) in PEERS {
         println!("cargo::rustc-check-cfg=cfg({library})");
         if has(header) {
@@ -42,6 +46,15 @@ fn link_tally() {
     };
     println!("cargo::rustc-link-search=native={}", folder.display());
     println!("cargo::rustc-link-lib=static=tally");
+}
+
+/// For the report: it is what the Rust core was built by.
+fn name_compiler() {
+    let rustc = env::var_os("RUSTC").expect("cargo sets it");
+    let asked = Command::new(rustc).arg("--version").output();
+    let said = asked.map(|output| String::from_utf8_lossy(&output.stdout).trim().to_string());
+    let version = said.unwrap_or("rustc of an unknown version".into());
+    println!("cargo::rustc-env=RUSTC_VERSION={version}");
 }
 
 /// Whether the compiler finds the header. libtelnet's wants `stddef.h` first.

@@ -1,13 +1,15 @@
-//! (b) Host bytes on a screen: beside libvterm, beside the oracle's core in
-//! Rust, and on a larger screen.
+//! (b) Host bytes on a screen: beside libvterm and libtsm, beside the oracle's
+//! core in Rust, and on a larger screen.
 
-use crate::c::libvterm::{self, Libvterm};
+use std::path::Path;
+
+use crate::beside_core::{self, Beside, FORMS, TEXT};
 use crate::compared::{self, not_measured, short, Compared};
 use crate::ours::Ours;
-use crate::rust_core::RustCore;
 use crate::size::{LARGE, SMALL};
 use crate::streams;
 use crate::table::{Aim, Row, Table};
+use crate::takes::{Shown, Shows, LIBTSM, LIBVTERM};
 use crate::timing::{beside, Job};
 
 const INPUT: usize = 64 << 10;
@@ -19,13 +21,21 @@ const TWENTY_LINES: usize = 1200;
 /// before it takes a byte, is below a hundredth of them.
 const LONG: usize = 1 << 20;
 
-pub fn table() -> Result<Table, String> {
+/// The Rust core is in this program as it is built plainly, and in the other
+/// one as it is built for speed.
+pub fn table(speed: &Path) -> Result<Table, String> {
     let (ten, one) = (Some(Aim::AtLeast(10.0)), Some(Aim::AtLeast(1.0)));
+    let plain = |input| beside_core::here(input);
+    let fast = |input| beside_core::by(speed, input);
     let rows = vec![
-        vterm_row("text", b"\r\n", ten)?,
-        vterm_row("text without line feeds", b"\r", None)?,
-        core_row("forms", &streams::forms(INPUT), one)?,
-        core_row("text", &streams::text(INPUT, b"\r\n"), None)?,
+        text_row(LIBVTERM, "text", b"\r\n", ten)?,
+        text_row(LIBVTERM, "text without line feeds", b"\r", None)?,
+        text_row(LIBTSM, "text", b"\r\n", None)?,
+        text_row(LIBTSM, "text without line feeds", b"\r", None)?,
+        core_row(FORMS, "Rust core, plain", plain(FORMS)?, one),
+        core_row(TEXT, "Rust core, plain", plain(TEXT)?, None),
+        core_row(FORMS, "Rust core, for speed", fast(FORMS)?, None),
+        core_row(TEXT, "Rust core, for speed", fast(TEXT)?, None),
         larger_row(),
         empty_row(),
     ];
@@ -36,13 +46,14 @@ fn ns_per_byte(name: &str, cost: f64) -> String {
     format!("{name} {} ns/byte", short(cost)).trim().into()
 }
 
-fn vterm_row(what: &str, line_end: &[u8], aim: Option<Aim>) -> Result<Row, String> {
+fn text_row(shown: Shown, what: &str, line_end: &[u8], aim: Option<Aim>) -> Result<Row, String> {
     let what = format!("host bytes, {what}, {SMALL}");
-    let Some(mut peer) = Libvterm::new(SMALL) else {
-        return Ok(not_measured(&what, libvterm::PACKAGE, aim));
+    let Some(mut peer) = (shown.open)(SMALL) else {
+        return Ok(not_measured(&what, shown.package, aim));
     };
     let mut ours = Ours::open(SMALL);
-    agree(&what, line_end, &mut ours, &mut peer)?;
+    let differ = |differ| format!("{what}, {}: {differ}", shown.name);
+    agree(line_end, &mut ours, peer.as_mut()).map_err(differ)?;
     let input = streams::text(INPUT, line_end);
     let costs = beside(&mut [
         Job::new(input.len(), || ours.take(&input)),
@@ -51,14 +62,14 @@ fn vterm_row(what: &str, line_end: &[u8], aim: Option<Aim>) -> Result<Row, Strin
     let row = Compared {
         what,
         ours: ns_per_byte("", costs.of(0)),
-        beside: ns_per_byte("libvterm", costs.of(1)),
+        beside: ns_per_byte(shown.name, costs.of(1)),
         unit: "times as fast",
     };
     Ok(row.row(costs.ratio(1, 0), aim))
 }
 
 /// Both are to show the same characters, as long as nothing scrolls.
-fn agree(what: &str, line_end: &[u8], ours: &mut Ours, peer: &mut Libvterm) -> Result<(), String> {
+fn agree(line_end: &[u8], ours: &mut Ours, peer: &mut dyn Shows) -> Result<(), String> {
     let text = streams::text(TWENTY_LINES, line_end);
     ours.take(&text);
     peer.take(&text);
@@ -68,30 +79,20 @@ fn agree(what: &str, line_end: &[u8], ours: &mut Ours, peer: &mut Libvterm) -> R
         let theirs = peer.cell(line, column).max(b' ');
         if theirs != *ours {
             let place = format!("column {column} of line {line}");
-            let differ = format!("we show {ours} and libvterm {theirs}");
-            return Err(format!("{what}: {differ} at {place}"));
+            return Err(format!("we show {ours} and it {theirs} at {place}"));
         }
     }
     Ok(())
 }
 
-fn core_row(what: &str, input: &[u8], aim: Option<Aim>) -> Result<Row, String> {
-    let what = format!("host bytes, {what}, {SMALL}");
-    let (mut ours, mut core) = (Ours::open(SMALL), RustCore::open(SMALL));
-    let costs = beside(&mut [
-        Job::new(input.len(), || ours.take(input)),
-        Job::new(input.len(), || core.take(input)),
-    ]);
-    if ours.chars != core.chars || ours.attrs != core.attrs {
-        return Err(format!("{what}: the Rust core's screen ends otherwise"));
-    }
+fn core_row(input: &str, core: &str, costs: Beside, aim: Option<Aim>) -> Row {
     let row = Compared {
-        what,
-        ours: ns_per_byte("", costs.of(0)),
-        beside: ns_per_byte("Rust core", costs.of(1)),
+        what: format!("host bytes, {input}, {SMALL}"),
+        ours: ns_per_byte("", costs.ours),
+        beside: ns_per_byte(core, costs.core),
         unit: "times as fast",
     };
-    Ok(row.row(costs.ratio(1, 0), aim))
+    row.row(costs.ratio, aim)
 }
 
 /// A byte of text on the larger screen beside one on the smaller.

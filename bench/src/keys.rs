@@ -9,11 +9,13 @@ use crate::size::{self, LARGE, SMALL};
 use crate::table::{Aim, Row, Table};
 use crate::timing::{beside, Costs, Job};
 
+pub const SEND: &str = "send (13)";
+
 pub const KEYS: [(u32, &str); 6] = [
     (b'a' as u32, "a character"),
     (8, "back (8)"),
     (9, "tab (9)"),
-    (13, "send (13)"),
+    (13, SEND),
     (127, "delete (127)"),
     (128, "function (128)"),
 ];

@@ -4,9 +4,10 @@ use crate::ours::Ours;
 use crate::size::Size;
 use crate::streams;
 
-const OPEN: u8 = 0x00;
-const PROTECTED: u8 = 0x08;
-const ANOTHER_OPEN: u8 = 0x02;
+pub const OPEN: u8 = 0x00;
+pub const OPEN_TOO: u8 = 0x02;
+pub const PROTECTED: u8 = 0x08;
+pub const PROTECTED_TOO: u8 = 0x0a;
 
 pub struct Screen {
     pub name: &'static str,
@@ -67,10 +68,15 @@ fn last_open(size: Size) -> Ours {
 }
 
 fn each_a_field(size: Size) -> Ours {
-    made(size, |cell, _| [OPEN, ANOTHER_OPEN][cell % 2])
+    alternating(size, [OPEN, OPEN_TOO])
 }
 
-fn open_if(open: bool) -> u8 {
+/// Each cell a field.
+pub fn alternating(size: Size, attributes: [u8; 2]) -> Ours {
+    made(size, |cell, _| attributes[cell % 2])
+}
+
+pub fn open_if(open: bool) -> u8 {
     if open {
         OPEN
     } else {
@@ -80,7 +86,7 @@ fn open_if(open: bool) -> u8 {
 
 /// A full screen with these attribute bytes, by cell and last cell, and the
 /// cursor on its first cell.
-fn made(size: Size, attribute: impl Fn(usize, usize) -> u8) -> Ours {
+pub fn made(size: Size, attribute: impl Fn(usize, usize) -> u8) -> Ours {
     let mut ours = Ours::open(size);
     ours.chars.fill(b'x');
     for (cell, attr) in ours.attrs.iter_mut().enumerate() {

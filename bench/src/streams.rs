@@ -1,8 +1,11 @@
 //! The inputs: what a host sends. Both sides of a row take the same bytes.
 
 const IAC: u8 = 255;
-const DO: u8 = 253;
-const VERBS: [u8; 4] = [251, 252, DO, 254];
+pub const WILL: u8 = 251;
+const WONT: u8 = 252;
+pub const DO: u8 = 253;
+pub const DONT: u8 = 254;
+const VERBS: [u8; 4] = [WILL, WONT, DO, DONT];
 const SB: u8 = 250;
 const SE: u8 = 240;
 const DET: u8 = 20;
@@ -10,6 +13,7 @@ const DET: u8 = 20;
 const MOVE_CURSOR: u8 = 5;
 const ERASE_SCREEN: u8 = 29;
 const FORMAT_DATA: u8 = 36;
+const SUPPRESS_PROTECTION: u8 = 38;
 const LAST_CODE: u8 = 41;
 
 /// The last three are right for FORMAT DATA, REPEAT and SUPPRESS PROTECTION.
@@ -134,14 +138,23 @@ fn format_data(attribute: u8, cells: u8) -> Vec<u8> {
 }
 
 /// For bytes without an IAC, which would have to be doubled.
-fn subcommand(bytes: &[u8]) -> Vec<u8> {
+pub fn subcommand(bytes: &[u8]) -> Vec<u8> {
     [&[IAC, SB, DET], bytes, &[IAC, SE]].concat()
+}
+
+pub fn negotiation(verb: u8, option: u8) -> Vec<u8> {
+    vec![IAC, verb, option]
+}
+
+/// Suppresses protection.
+pub fn suppress() -> Vec<u8> {
+    subcommand(&[SUPPRESS_PROTECTION, DO])
 }
 
 /// Every negotiation, and every subcommand with 0 to 5 parameters of several
 /// values: each is obeyed or draws an ERROR.
 pub fn commands() -> Vec<Vec<u8>> {
-    let negotiations = VERBS.map(|verb| vec![IAC, verb, DET]);
+    let negotiations = VERBS.map(|verb| negotiation(verb, DET));
     let mut commands = Vec::from(negotiations);
     for code in 0..=LAST_CODE {
         for parameters in PARAMETERS {
@@ -162,13 +175,27 @@ const WORDS: [&str; 12] = [
 /// Lines of words, each below 80 characters and ended in this way, until there
 /// are so many bytes.
 pub fn text(length: usize, line_end: &[u8]) -> Vec<u8> {
+    lines(length, &[71, 64, 79, 58, 75, 12, 68], line_end)
+}
+
+/// Lines of 1 to 8 characters.
+pub fn short_lines(length: usize) -> Vec<u8> {
+    lines(length, &[3, 1, 8, 2, 5, 1, 4], b"\r\n")
+}
+
+/// No two printable bytes stand together, and the cursor stays on its line.
+pub fn one_a_line(length: usize) -> Vec<u8> {
+    lines(length, &[1], b"\r")
+}
+
+fn lines(length: usize, widths: &[usize], line_end: &[u8]) -> Vec<u8> {
     let mut bytes = Vec::new();
     let mut word = 0;
-    for width in [71, 64, 79, 58, 75, 12, 68].into_iter().cycle() {
+    for width in widths.iter().cycle() {
         if bytes.len() >= length {
             break;
         }
-        bytes.extend(line(width, &mut word));
+        bytes.extend(line(*width, &mut word));
         bytes.extend(line_end);
     }
     bytes

@@ -60,12 +60,28 @@ pub struct Table {
     pub title: &'static str,
     pub head: Vec<String>,
     pub rows: Vec<Row>,
+    /// Under the rows, a line each.
+    notes: Vec<String>,
 }
 
 impl Table {
     pub fn new(title: &'static str, head: &[&str], rows: Vec<Row>) -> Table {
         let head = head.iter().map(|column| column.to_string()).collect();
-        Table { title, head, rows }
+        Table {
+            title,
+            head,
+            rows,
+            notes: Vec::new(),
+        }
+    }
+
+    /// Where there is nothing but something to say.
+    pub fn only_notes(title: &'static str, notes: Vec<String>) -> Table {
+        Table::new(title, &[], Vec::new()).with_notes(notes)
+    }
+
+    pub fn with_notes(self, notes: Vec<String>) -> Table {
+        Table { notes, ..self }
     }
 
     pub fn count(&self, verdict: Verdict) -> usize {
@@ -90,20 +106,43 @@ fn line<'a>(cells: &'a [String], last: Option<&'a str>) -> Vec<&'a str> {
 /// In Markdown, with its columns aligned for who reads it as it is.
 impl fmt::Display for Table {
     fn fmt(&self, f: &mut fmt::Formatter) -> fmt::Result {
-        let lines = self.lines();
-        let width = |column: usize| lines.iter().map(|line| line[column].chars().count()).max();
-        let widths: Vec<usize> = (0..lines[0].len()).filter_map(width).collect();
-        writeln!(f, "## {}\n", self.title)?;
-        for (number, line) in lines.iter().enumerate() {
-            for (cell, width) in line.iter().zip(&widths) {
-                write!(f, "| {cell:width$} ")?;
-            }
-            writeln!(f, "|")?;
-            if number == 0 {
-                let rules = widths.iter().map(|width| "-".repeat(width + 2));
-                writeln!(f, "|{}|", rules.collect::<Vec<_>>().join("|"))?;
-            }
+        writeln!(f, "## {}", self.title)?;
+        if !self.head.is_empty() {
+            writeln!(f)?;
+            grid(f, &self.lines())?;
+        }
+        for note in &self.notes {
+            writeln!(f, "\n{note}")?;
         }
         Ok(())
     }
+}
+
+fn grid(f: &mut fmt::Formatter, lines: &[Vec<&str>]) -> fmt::Result {
+    let width = |column: usize| lines.iter().map(|line| line[column].chars().count()).max();
+    let widths: Vec<usize> = (0..lines[0].len()).filter_map(width).collect();
+    for (number, line) in lines.iter().enumerate() {
+        for (cell, width) in line.iter().zip(&widths) {
+            write!(f, "| {cell:width$} ")?;
+        }
+        writeln!(f, "|")?;
+        if number == 0 {
+            let rules = widths.iter().map(|width| "-".repeat(width + 2));
+            writeln!(f, "|{}|", rules.collect::<Vec<_>>().join("|"))?;
+        }
+    }
+    Ok(())
+}
+
+/// A whole number, with commas.
+pub fn grouped(number: f64) -> String {
+    let digits = format!("{number:.0}");
+    let mut grouped = String::new();
+    for (index, digit) in digits.chars().enumerate() {
+        if index > 0 && (digits.len() - index) % 3 == 0 {
+            grouped.push(',');
+        }
+        grouped.push(digit);
+    }
+    grouped
 }

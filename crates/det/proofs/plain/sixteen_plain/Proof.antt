@@ -1,0 +1,35 @@
+-- `sixteen_plain` meets its contract: what is true so far is true of each.
+use mathlib.Core.Path.{_≡_, sym, _∙_}
+use mathlib.Core.Bool.{true}
+use Prim.Native.Nat.{_-_, _≤_}
+use native.Mathlib.Omega.{arith}
+use borrow.Author.Needs.{needs}
+use Rattle.screen.proofs.WordLaws.{and-left, and-right}
+use Rattle.det.specs.inner.Plain.{AllPlain}
+use Rattle.det.proofs.PlainLaws.{plain-none, plain-next}
+use Rattle.det.proofs.plain.sixteen_plain.Statement.{statement}
+use Rattle.det.proofs.plain.sixteen_plain.Tie as tie
+
+pub sixteen-plain-spec : {M : Type 1} → statement M
+sixteen-plain-spec =
+    tie.close
+    (tie.spec
+    (λ suppressed bytes from attrs cell all₀ i₀ all i. (i ≤ 16) × (all ≡ true → AllPlain suppressed bytes attrs from cell i))
+    (λ suppressed bytes from attrs cell all₀ i₀ all i. 16 - i)
+    (λ c. (omega arith, λ e. plain-none))
+    (λ c. search needs)
+    (λ c. search needs)
+    (λ c. search needs)
+    (λ c. search needs)
+    (λ c κs. search needs)
+    (λ c κs. search needs)
+    (λ c. search needs)
+    (λ c. search needs)
+    (λ c. let l = c .before .before .before .before .before .loop in
+    let one = c .before .is-plain in (
+      search needs,
+      λ e.
+          let two = sym (c .both .ensures) ∙ e in
+          plain-next (l .inv .1 (and-left (l .all) (one .result) two)) (sym (one .ensures) ∙ and-right (l .all) (one .result) two),
+    ))
+    (λ c e. let k : c .before .loop .i ≡ 16 = omega arith in rw k at (c .before .loop .inv .1 e)))

@@ -1,11 +1,14 @@
-// Characters from the host that go into their cells by one copy: how many there are. They are printable, their cells are not guarded,
-// and they stand on the cursor's line before its last cell.
+// Characters from the host, decided: how many stand in the input in a row, and how many of them go into their cells by one copy. The
+// loops of constant length have one way out, so that the compiler tests sixteen bytes at once.
 ghost use mathlib.Core.Path.{_≡_};
 ghost use mathlib.Core.Bool.{true, _&&_};
 ghost use Prim.Native.Nat.{_+_, _-_, _≤_, _<_};
 ghost use lib.ListN.{length};
 ghost use Rattle.screen.specs.Cells.{cellOf};
-ghost use Rattle.det.specs.inner.Plain.{plain, AllPlain, PlainRun};
+ghost use Rattle.rules.specs.Session.{printable};
+ghost use Rattle.rules.specs.Cursor.{nextCell};
+ghost use Rattle.command.specs.Frame.{seen};
+ghost use Rattle.det.specs.inner.Plain.{unguarded, Each, OpenRun, LastCounts};
 use command::character::is_printable;
 use command::frame::cursor_cell;
 use command::frame::cursor_guarded;
@@ -31,47 +34,44 @@ fn minus(a: usize, b: usize) -> usize
     if b < a { a - b } else { 0 }
 }
 
-// A printable byte, and the attribute byte of a cell that is not guarded. The mode has its own way out: it leaves the loops below.
-fn is_plain(suppressed: bool, byte: u8, attr: u8) -> bool
-    ensures { λ r. ⌜ r ≡ plain suppressed byte attr ⌝ }
+// ---- characters in a row
+
+// Do two stand there? Fewer are not worth a copy.
+pub(crate) fn two_characters(bytes: &[u8], from: usize) -> bool
+    requires { ⌜ from < length (now bytes) ⌝ }
+    ensures { λ r. ⌜ (r ≡ true → (from + 2 ≤ length (now (bytes .entry))) × Each printable (now (bytes .entry)) from 2) ⌝ }
 {
-    let text = is_printable(byte);
-    if suppressed {
-        return text;
+    if bytes.len() - from < 2 {
+        return false;
     }
-    both(protection(attr) != 1, text)
+    let one = is_printable(bytes[from]);
+    if !one {
+        return false;
+    }
+    is_printable(bytes[from + 1])
 }
 
-// Are the next sixteen such? The loop has one way out, so that the compiler tests all at once.
-fn sixteen_plain(suppressed: bool, bytes: &[u8], from: usize, attrs: &[u8], cell: usize) -> bool
-    requires { ⌜ (from + 16 ≤ length (now bytes)) × (cell + 16 ≤ length (now attrs)) ⌝ }
-    ensures { λ r. ⌜ (r ≡ true → AllPlain suppressed (now (bytes .entry)) (now (attrs .entry)) from cell 16) ⌝ }
+fn sixteen_characters(bytes: &[u8], from: usize) -> bool
+    requires { ⌜ from + 16 ≤ length (now bytes) ⌝ }
+    ensures { λ r. ⌜ (r ≡ true → Each printable (now (bytes .entry)) from 16) ⌝ }
 {
     let mut all = true;
     let mut i = 0;
     while i < 16 {
-        let one = is_plain(suppressed, bytes[from + i], attrs[cell + i]);
+        let one = is_printable(bytes[from + i]);
         all = both(all, one);
         i += 1;
     }
     all
 }
 
-// At most so many, by sixteens.
-fn plain_sixteens(
-    suppressed: bool,
-    bytes: &[u8],
-    from: usize,
-    attrs: &[u8],
-    cell: usize,
-    most: usize,
-) -> usize
-    requires { ⌜ (most ≤ length (now bytes) - from) × (most ≤ length (now attrs) - cell) ⌝ }
-    ensures { λ r. ⌜ (r ≤ most) × AllPlain suppressed (now (bytes .entry)) (now (attrs .entry)) from cell r ⌝ }
+fn by_sixteens(bytes: &[u8], from: usize) -> usize
+    requires { ⌜ from ≤ length (now bytes) ⌝ }
+    ensures { λ r. ⌜ (from + r ≤ length (now (bytes .entry))) × Each printable (now (bytes .entry)) from r ⌝ }
 {
     let mut n = 0;
-    while 16 <= most - n {
-        let all = sixteen_plain(suppressed, bytes, from + n, attrs, cell + n);
+    while 16 <= bytes.len() - from - n {
+        let all = sixteen_characters(bytes, from + n);
         if !all {
             break;
         }
@@ -80,21 +80,84 @@ fn plain_sixteens(
     n
 }
 
-// At most so many.
-fn count_plain(
-    suppressed: bool,
-    bytes: &[u8],
-    from: usize,
-    attrs: &[u8],
-    cell: usize,
-    most: usize,
-) -> usize
-    requires { ⌜ (most ≤ length (now bytes) - from) × (most ≤ length (now attrs) - cell) ⌝ }
-    ensures { λ r. ⌜ (r ≤ most) × AllPlain suppressed (now (bytes .entry)) (now (attrs .entry)) from cell r ⌝ }
+// How many stand there in a row.
+pub(crate) fn count_characters(bytes: &[u8], from: usize) -> usize
+    requires { ⌜ from ≤ length (now bytes) ⌝ }
+    ensures { λ r. ⌜ (from + r ≤ length (now (bytes .entry))) × Each printable (now (bytes .entry)) from r ⌝ }
 {
-    let mut n = plain_sixteens(suppressed, bytes, from, attrs, cell, most);
+    let mut n = by_sixteens(bytes, from);
+    while n < bytes.len() - from {
+        let text = is_printable(bytes[from + n]);
+        if !text {
+            break;
+        }
+        n += 1;
+    }
+    n
+}
+
+// ---- cells in a row that are not guarded
+
+fn is_unguarded(attr: u8) -> bool
+    ensures { λ r. ⌜ r ≡ unguarded attr ⌝ }
+{
+    protection(attr) != 1
+}
+
+fn sixteen_unguarded(attrs: &[u8], cell: usize) -> bool
+    requires { ⌜ cell + 16 ≤ length (now attrs) ⌝ }
+    ensures { λ r. ⌜ (r ≡ true → Each unguarded (now (attrs .entry)) cell 16) ⌝ }
+{
+    let mut all = true;
+    let mut i = 0;
+    while i < 16 {
+        let one = is_unguarded(attrs[cell + i]);
+        all = both(all, one);
+        i += 1;
+    }
+    all
+}
+
+fn unguarded_sixteens(attrs: &[u8], cell: usize, most: usize) -> usize
+    requires { ⌜ most ≤ length (now attrs) - cell ⌝ }
+    ensures { λ r. ⌜ (r ≤ most) × Each unguarded (now (attrs .entry)) cell r ⌝ }
+{
+    let mut n = 0;
+    while 16 <= most - n {
+        let all = sixteen_unguarded(attrs, cell + n);
+        if !all {
+            break;
+        }
+        n += 16;
+    }
+    n
+}
+
+// The last sixteen, some of them tested twice, stand for the rest.
+fn unguarded_ends(attrs: &[u8], cell: usize, most: usize) -> usize
+    requires { ⌜ most ≤ length (now attrs) - cell ⌝ }
+    ensures { λ r. ⌜ (r ≤ most) × Each unguarded (now (attrs .entry)) cell r ⌝ }
+{
+    let n = unguarded_sixteens(attrs, cell, most);
+    if most < 16 {
+        return n;
+    }
+    if most - n < 16 {
+        let rest = sixteen_unguarded(attrs, cell + (most - 16));
+        if rest {
+            return most;
+        }
+    }
+    n
+}
+
+fn count_unguarded(attrs: &[u8], cell: usize, most: usize) -> usize
+    requires { ⌜ most ≤ length (now attrs) - cell ⌝ }
+    ensures { λ r. ⌜ (r ≤ most) × Each unguarded (now (attrs .entry)) cell r ⌝ }
+{
+    let mut n = unguarded_ends(attrs, cell, most);
     while n < most {
-        let one = is_plain(suppressed, bytes[from + n], attrs[cell + n]);
+        let one = is_unguarded(attrs[cell + n]);
         if !one {
             break;
         }
@@ -114,40 +177,43 @@ fn room_on_line(frame: Frame, cells: usize) -> usize
     )
 }
 
-// The characters from `from` on, where the screen has `cells` cells. Fewer than two are not worth a copy.
-pub(crate) fn plain_run(
-    frame: Frame,
-    bytes: &[u8],
-    from: usize,
-    attrs: &[u8],
-    cells: usize,
-) -> usize
-    requires { ⌜ from < length (now bytes) ⌝ }
-    ensures { λ r. ⌜ PlainRun frame (now (bytes .entry)) from (now (attrs .entry)) cells r ⌝ }
+// How many characters, at most `most`, go into their cells by one copy: from the cursor on, before the last cell of its line, on a screen of
+// `cells` cells.
+pub(crate) fn open_run(frame: Frame, attrs: &[u8], cells: usize, most: usize) -> usize
+    ensures { λ r. ⌜ OpenRun frame (now (attrs .entry)) cells most r ⌝ }
 {
-    let text = is_printable(bytes[from]);
-    if !text {
-        return 0;
+    let room = room_on_line(frame, least(cells, attrs.len()));
+    let few = least(room, most);
+    if frame.suppressed {
+        return few;
     }
+    count_unguarded(attrs, cursor_cell(frame), few)
+}
+
+// ---- where the cursor stays
+
+fn at_last_cell(frame: Frame) -> bool
+    ensures { λ r. ⌜ (r ≡ true → nextCell frame ≡ frame .cursor) ⌝ }
+{
+    if frame.cursor.x.0 as usize + 1 < frame.width as usize {
+        return false;
+    }
+    frame.height as usize <= frame.cursor.y.0 as usize + 1
+}
+
+// Of the characters from `at` up to the answer only the last counts. On a guarded cell all are lost; at the screen's last cell each takes the
+// place of the one before.
+pub(crate) fn last_counts(frame: Frame, attrs: &[u8], at: usize, end: usize) -> usize
+    requires { ⌜ at < end ⌝ }
+    ensures { λ r. ⌜ LastCounts (seen frame (attrs .entry)) at end r ⌝ }
+{
     let guarded = cursor_guarded(frame, attrs);
     if guarded {
-        return 0;
+        return end;
     }
-    if bytes.len() - from < 2 {
-        return 0;
+    let stays = at_last_cell(frame);
+    if stays {
+        return end;
     }
-    let more = is_printable(bytes[from + 1]);
-    if !more {
-        return 0;
-    }
-    let room = room_on_line(frame, least(cells, attrs.len()));
-    let most = least(room, bytes.len() - from);
-    count_plain(
-        frame.suppressed,
-        bytes,
-        from,
-        attrs,
-        cursor_cell(frame),
-        most,
-    )
+    at + 1
 }

@@ -1,27 +1,33 @@
--- Characters from the host that go into their cells by one copy.
+-- Characters from the host, in a row: those that go into their cells by one copy, and those of which only the last counts.
 use mathlib.Core.Path.{_≡_}
-use mathlib.Core.Bool.{Bool, true, not, _&&_}
+use mathlib.Core.Bool.{Bool, true, false, not}
 use mathlib.Core.List.{List}
 use Prim.Native.Nat.{ℕ, _+_, _-_, _≤_, _<_}
 use lib.Dec.{eqb}
-use lib.ListN.{length, getD}
-use Rattle.screen.specs.Attributes.{protection}
+use lib.ListN.{getD}
+use Rattle.screen.specs.Attributes.{protection, guardedAt}
 use Rattle.screen.specs.Cells.{cellOf}
-use Rattle.rules.specs.Session.{printable}
 use Rattle.rules.specs.declared.Frame.{Frame}
+use Rattle.rules.specs.Session.{View}
+use Rattle.rules.specs.Telnet.{hostCharacter}
 
--- a printable byte, and the attribute byte of a cell that is not guarded
-abbrev pub plain : Bool → ℕ → ℕ → Bool
-plain suppressed byte attr = not (not suppressed && eqb (protection attr) 1) && printable byte
+-- the attribute byte of a cell that is not protected
+abbrev pub unguarded : ℕ → Bool
+unguarded attr = not (eqb (protection attr) 1)
 
--- so many bytes and cells are such
-pub record AllPlain (suppressed : Bool) (bytes attrs : List ℕ) (from cell n : ℕ) : Type 0 where
-  pub each : (i : ℕ) → i < n → plain suppressed (getD bytes (from + i) 0) (getD attrs (cell + i) 0) ≡ true
+-- n bytes from a place on pass a test
+pub record Each (test : ℕ → Bool) (xs : List ℕ) (from n : ℕ) : Type 0 where
+  pub each : (i : ℕ) → i < n → test (getD xs (from + i) 0) ≡ true
 
--- those from `from` on and from the cursor on, on the cursor's line before its last cell, and there are so many cells
-pub record PlainRun (f : Frame) (bytes : List ℕ) (from : ℕ) (attrs : List ℕ) (cells n : ℕ) : Type 0 where
-  pub within : n ≤ length bytes - from
+-- n cells from the cursor on, on its line before the last cell, are not guarded
+pub record OpenRun (f : Frame) (attrs : List ℕ) (cells most n : ℕ) : Type 0 where
+  pub few : n ≤ most
   pub line : n ≤ f .width - (f .cursor .x .0 + 1)
-  pub attributes : n ≤ length attrs - cellOf (f .width) (f .cursor)
   pub characters : n ≤ cells - cellOf (f .width) (f .cursor)
-  pub all : AllPlain (f .suppressed) bytes attrs from (cellOf (f .width) (f .cursor)) n
+  pub free : (k : ℕ) → k < n → guardedAt (f .suppressed) attrs (cellOf (f .width) (f .cursor) + k) ≡ false
+
+-- one character from `at` on, or all up to r where the cursor stays
+pub record LastCounts (v : View) (at end r : ℕ) : Type 0 where
+  pub further : at < r
+  pub within : r ≤ end
+  pub stays : (at + 1 < r) → (b : ℕ) → (hostCharacter v b) .view ≡ v

@@ -3,9 +3,11 @@ use mathlib.Core.Path.{_≡_, refl}
 use Prim.Native.Nat.{_-_}
 use native.Mathlib.Omega.{arith}
 use borrow.Author.Needs.{needs}
+use borrow.Author.Tests.{not-false}
 use lib.ListN.{length}
-use Rattle.det.proofs.LoopLaws.{Texted, texted-none, texted-more, texted-all}
-use Rattle.det.proofs.PlainLaws.{texted-copied}
+use Rattle.det.specs.inner.Apply.{Texted}
+use Rattle.det.proofs.LoopLaws.{texted-none, texted-more, texted-all}
+use Rattle.det.proofs.PlainLaws.{each-row}
 use Rattle.det.proofs.data.host_text.Statement.{statement}
 use Rattle.det.proofs.data.host_text.Tie as tie
 
@@ -20,14 +22,15 @@ host-text-spec =
     (λ c. let d = c .before .before in
     let l = d .before .before .before .before .before in
     (texted-more _ _ _ (l .before .loop .inv .0) (l .loop-test .taken) (d .take-data .ensures), search needs))
-    (λ c. search needs) (λ c κs. search needs) (λ c κs. search needs) (λ c κs. search needs) (λ c. search needs)
-    (λ c. let i = c .before .before .before .before .before .before in omega (arith, i .if1 .left, i .before .before .loop-test .taken))
-    (λ c. let t = c .before .before .before in
-    let i = t .before .before .before in
-    let p = i .before in (
-      texted-copied _ _ _ (p .before .before .loop .inv .0) (p .plain-run .ensures) (i .if1 .left) (t .before .cursor-cell .ensures)
-          (t .copy-text .ensures) (c .gone-right .ensures),
-      search needs,
-    ))
+    (λ c. let t = c .before in omega (arith, t .two-characters .ensures (not-false _ (c .if1 .left)) .0))
+    (λ c. let t = c .before in omega (arith, t .two-characters .ensures (not-false _ (c .if1 .left)) .0))
+    (λ c κs. let t = c .before in t .two-characters .ensures (not-false _ (c .if1 .left)) .0)
+    (λ c. omega (arith, c .count-characters .ensures .0))
+    (λ c κs. let n = c .before in
+    let t = n .before .before .two-characters .ensures (not-false _ (n .before .if1 .left)) in
+    (omega arith, n .count-characters .ensures .0, each-row (t .1) (n .count-characters .ensures .1)))
+    (λ c. omega (arith, c .before .before .before .before .before .before .before .loop-test .taken))
+    (λ c. let p = c .before .before in
+    (p .put-text .ensures .on _ _ (p .before .before .before .before .before .before .loop .inv .0), search needs))
     (λ c. search needs)
     (λ c. texted-all _ _ _ (c .before .loop .inv .0) (c .loop-test .left)))

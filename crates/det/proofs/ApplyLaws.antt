@@ -35,6 +35,11 @@ pub changes-once : (edit : Edit) {f : Frame} {b : Screen} {chars : List ℕ} →
     → chars ≡ changedAll (b .chars) (b .attrs) (changesOf edit) → Changes (edited (view f (b .attrs)) edit) b f chars
 changes-once edit {f} {b} once e = rw (once (view f (b .attrs))) (record { frame = refl; characters = e })
 
+-- and no edit the characters too
+pub changes-none : (f : Frame) (b : Screen) → Changes (edited (view f (b .attrs)) Nothing) b f (b .chars)
+unfolding changedAll
+changes-none f b = changes-once Nothing (λ v. refl) refl
+
 -- ---- REPEAT
 
 -- a host character keeps the attribute bytes

@@ -99,12 +99,16 @@ module _ (s : State) (reply : List ℕ) (at : ℕ) (a : Accepts s reply at) wher
 -- ---- a whole call
 
 module _ {s₀ s : State} {input reply₀ reply : List ℕ} {taken written : ℕ} (t : Taking s₀ input 0 reply₀ 0 s taken reply written) where
+  taking-sound : Accepts s₀ reply₀ 0 → Sound (s₀ .session .frame .width) (s₀ .session .frame .height) s
+  taking-sound a = rw (t .state) (sound-running (accepted s₀ reply₀ 0 a .sound) (part 0 taken input))
+
+  -- the longest reply stays as long
+  pub taking-room : Accepts s₀ reply₀ 0 → replyRoom (s .session .frame) ≡ replyRoom (s₀ .session .frame)
+  taking-room a = let z = taking-sound a .view .sizes in rw (z .width, z .height)
+
   -- a byte is taken where there is room for a reply
-  pub taking-accepts : Accepts s₀ reply₀ 0 → replyRoom (s .session .frame) ≤ length reply - written → Accepts s reply written
-  taking-accepts a r =
-      let sound : Sound (s₀ .session .frame .width) (s₀ .session .frame .height) s =
-      rw (t .state) (sound-running (accepted s₀ reply₀ 0 a .sound) (part 0 taken input)) in
-      passes sound (drop written reply) (rw length-drop r)
+  pub taking-accepts : Accepts s₀ reply₀ 0 → replyRoom (s₀ .session .frame) ≤ length reply - written → Accepts s reply written
+  taking-accepts a r = passes (taking-sound a) (drop written reply) (rw (length-drop, taking-room a) r)
 
   -- where no more is taken, all is done
   pub taking-done : takenOf s (length reply₀ - written) (drop taken input) ≡ 0

@@ -3,6 +3,7 @@ pub mod ReplyLaws
 pub mod ApplyLaws
 pub mod QuietLaws
 pub mod LoopLaws
+pub mod PlainLaws
 pub mod RefuseLaws
 pub mod SettleLaws
 pub mod TakeLaws

@@ -11,7 +11,7 @@ use Rattle.rules.specs.Session.{View, screen, view}
 use Rattle.rules.specs.Effect.{Effect, changedAll, changing}
 use Rattle.rules.specs.Telnet.{holding, hostData}
 use Rattle.rules.proofs.Characters.{changed-append}
-use Rattle.det.specs.inner.Apply.{Changes, hostText}
+use Rattle.det.specs.inner.Apply.{Changes, hostText, Texted}
 use Rattle.det.specs.inner.Take.{holdingAll}
 use Rattle.det.proofs.TakeLaws.{data-only}
 
@@ -29,10 +29,6 @@ text-next : (v : View) (xs : List ℕ) (b : ℕ) → let e = hostText v xs in le
 unfolding hostText
 text-next v [] b = rw append-nil
 text-next v (x ∷ xs) b = rw (text-next ((hostData v x) .view) xs b, append-assoc)
-
--- what the first `at` bytes do
-abbrev pub Texted : (attrs bytes : List ℕ) (f₀ : Frame) (chars₀ : List ℕ) (at : ℕ) (f : Frame) (chars : List ℕ) → Type 0
-Texted attrs bytes f₀ chars₀ at f chars = Changes (hostText (view f₀ attrs) (take at bytes)) (screen chars₀ attrs) f chars
 
 pub texted-none : (attrs bytes : List ℕ) (f : Frame) (chars : List ℕ) → Texted attrs bytes f chars 0 f chars
 unfolding hostText changedAll

@@ -1,10 +1,11 @@
--- Laws of refusals: lists of tests, the sizes, and a scan for a character that is not printable.
+-- Laws of refusals: lists of tests, the sizes, and the least and the greatest character.
 use mathlib.Core.Path.{_≡_, refl, sym, _∙_}
-use mathlib.Core.Bool.{Bool, true, false, not}
+use mathlib.Core.Bool.{Bool, true, false, not, _&&_}
 use mathlib.Core.List.{List, [], _∷_, _++_}
-use Prim.Native.Nat.{ℕ, _+_, _*_, _≤_, _<_}
+use Prim.Native.Nat.{ℕ, suc, _+_, _*_, _≤_, _<_, min, max}
+use native.Mathlib.Omega.{arith}
 use native.Mathlib.Numerals.{add-one}
-use borrow.Author.Tests.{not-true, not-false, leb-true}
+use borrow.Author.Tests.{not-true, not-false, leb-true, leb-false, le-leb, lt-leb}
 use lib.Dec.{leb}
 use lib.ListN.{length, getD, drop}
 use lib.Seq.{drop-cons}
@@ -12,7 +13,7 @@ use Rattle.screen.specs.Words.{between}
 use Rattle.screen.proofs.WordLaws.{true-or-false, not-both, and-left, and-right}
 use Rattle.screen.proofs.CellLaws.{cells-few}
 use Rattle.rules.specs.declared.Refusal.the-variants.{Taken}
-use Rattle.rules.specs.Session.{sizesOk, printable, allPrintable}
+use Rattle.rules.specs.Session.{sizesOk, allPrintable}
 use Rattle.rules.specs.Refusal.{Test, isTaken, verdict}
 use Rattle.rules.proofs.Refusals.{refuses}
 
@@ -56,12 +57,41 @@ bounds m n e =
 pub few : (m n : ℕ) → sizesOk m n ≡ true → n * m ≤ 8448
 few m n e = let b = bounds m n e in cells-few (b .0) (b .1)
 
--- a printable character leaves the others; one that is not printable decides
-module _ (chars : List ℕ) (i : ℕ) (h : i < length chars) where
-  pub text-on : printable (getD chars i 0) ≡ true → allPrintable (drop i chars) ≡ allPrintable (drop (i + 1) chars)
-  unfolding allPrintable
-  text-on e = rw (add-one, drop-cons chars i 0, e)
+-- ---- the least and the greatest character
+pub and-true : (a : Bool) → (a && true) ≡ a
+and-true true = refl
+and-true false = refl
 
-  pub text-off : printable (getD chars i 0) ≡ false → allPrintable (drop i chars) ≡ false
-  unfolding allPrintable
-  text-off e = rw (drop-cons chars i 0, e)
+least-above : (n a b : ℕ) → leb n (min a b) ≡ (leb n b && leb n a)
+least-above n a b =
+    true-or-false (leb n b)
+    (λ p. true-or-false (leb n a)
+    (λ q. rw (p, q) (le-leb n (min a b) (omega (arith, leb-true n b p, leb-true n a q))))
+    (λ q. rw (p, q) (lt-leb n (min a b) (omega (arith, leb-false n a q)))))
+    (λ p. rw p (lt-leb n (min a b) (omega (arith, leb-false n b p))))
+
+greatest-below : (n a b : ℕ) → leb (max a b) n ≡ (leb b n && leb a n)
+greatest-below n a b =
+    true-or-false (leb b n)
+    (λ p. true-or-false (leb a n)
+    (λ q. rw (p, q) (le-leb (max a b) n (omega (arith, leb-true b n p, leb-true a n q))))
+    (λ q. rw (p, q) (lt-leb (max a b) n (omega (arith, leb-false a n q)))))
+    (λ p. rw p (lt-leb (max a b) n (omega (arith, leb-false b n p))))
+
+regroup : (l h r a b : Bool) → (((l && h) && r) && (a && b)) ≡ (r && ((l && a) && (h && b)))
+regroup true true r a b = refl
+regroup true false true true b = refl
+regroup true false true false b = refl
+regroup true false false a b = refl
+regroup false h true a b = refl
+regroup false h false a b = refl
+
+-- a character goes into the two
+pub text-on : (chars : List ℕ) (i low high : ℕ) → i < length chars → let c = getD chars i 0 in
+    (allPrintable (drop i chars) && (leb 32 low && leb high 126))
+    ≡ (allPrintable (drop (i + 1) chars) && (leb 32 (min low c) && leb (max high c) 126))
+unfolding allPrintable
+text-on chars i low high h =
+    let c = getD chars i 0 in
+    rw (add-one, drop-cons chars i 0, least-above 32 low c, greatest-below 126 high c)
+    (regroup (leb 32 c) (leb c 126) (allPrintable (drop (suc i) chars)) (leb 32 low) (leb high 126))

@@ -4,6 +4,8 @@ ghost use Rattle.rules.specs.Effect.{changedAll};
 ghost use Rattle.command.specs.Frame.{seen};
 ghost use Rattle.decide.specs.Decision.{edited, attrsOf, meant};
 ghost use Rattle.decide.specs.inner.Decision.{changesOf};
+ghost use Rattle.reply.specs.Pieces.{sayPieces};
+ghost use Rattle.reply.specs.Written.{Wrote};
 ghost use Rattle.reply.specs.inner.Reply.{Sayable};
 ghost use Rattle.det.specs.Lent.{lent};
 ghost use Rattle.det.specs.inner.Apply.{Changes, Applies};
@@ -12,6 +14,7 @@ use crate::data::set_cell;
 use decide::decision::Decision;
 use decide::decision::Edit;
 use decide::decision::Format;
+use decide::decision::Say;
 use reply::write_reply;
 use rules::Frame;
 use screen::edit::erase;
@@ -74,6 +77,25 @@ fn format_attrs(change: Format, attrs: &mut [u8])
     }
 }
 
+// Most decisions say nothing and change no character: those take no call.
+fn say_any(say: Say, chars: &[u8], attrs: &[u8], reply: &mut [u8], at: usize) -> usize
+    ensures { λ r. ⌜ Wrote (now (reply .entry)) at (sayPieces (now (chars .entry)) (now (attrs .entry)) say) (now (reply .exit)) r ⌝ }
+{
+    match say {
+        Say::Silent => at,
+        _ => write_reply(say, chars, attrs, reply, at),
+    }
+}
+
+fn change_any(frame: Frame, edit: Edit, chars: &mut [u8], attrs: &[u8]) -> Frame
+    ensures { λ r. ⌜ Changes (edited (seen frame (attrs .entry)) edit) (lent (chars .entry) (attrs .entry)) r (now (chars .exit)) ⌝ }
+{
+    match edit {
+        Edit::Nothing => frame,
+        _ => change_chars(frame, edit, chars, attrs),
+    }
+}
+
 pub(crate) fn apply(
     decision: Decision,
     chars: &mut [u8],
@@ -87,9 +109,9 @@ pub(crate) fn apply(
         r (lent (chars .exit) (attrs .exit)) (now (reply .exit)) ⌝ }
 {
     let say = decision.say;
-    let next = write_reply(say, chars, attrs, reply, at);
+    let next = say_any(say, chars, attrs, reply, at);
     let edit = decision.edit;
-    let frame = change_chars(decision.frame, edit, chars, attrs);
+    let frame = change_any(decision.frame, edit, chars, attrs);
     let format = decision.format;
     format_attrs(format, attrs);
     Applied {

@@ -5,5 +5,6 @@ mod data;
 mod held;
 pub mod number;
 pub mod operation;
+mod plain;
 mod refuse;
 mod take;

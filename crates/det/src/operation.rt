@@ -74,11 +74,12 @@ fn take_all(
     ensures { λ r. ⌜ outcome r (lent (chars .exit) (attrs .exit)) (now (reply .exit))
         ≡ hostTaken (state session (lent (chars .entry) (attrs .entry))) (now (reply .entry)) (now (input .entry)) ⌝ }
 {
+    let room = reply_room(session.frame);
     let mut now = session;
     let mut taken = 0;
     let mut written = 0;
     while taken < input.len() {
-        if reply.len() - written < reply_room(now.frame) {
+        if reply.len() - written < room {
             break;
         }
         let turn = take_turn(now, input, taken, chars, attrs, reply, written);

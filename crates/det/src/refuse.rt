@@ -1,10 +1,10 @@
 // What every operation asks of its sizes, session and buffers, in document 01's order.
 ghost use mathlib.Core.Path.{_≡_};
+ghost use Prim.Native.Nat.{min, max};
 ghost use Rattle.rules.specs.Session.{sizesOk, replyRoom, freshFrame, allPrintable, sessionOk, state};
 ghost use Rattle.rules.specs.Refusal.{verdict, sizeTests, stateTests};
 ghost use Rattle.rules.specs.Operation.{hostRefusal};
 ghost use Rattle.det.specs.Lent.{lent};
-use command::character::is_printable;
 use rules::Frame;
 use rules::Refusal;
 use rules::Session;
@@ -23,18 +23,31 @@ fn sizes_ok(m: usize, n: usize) -> bool
     1 <= n && n <= 64
 }
 
+fn lesser(a: u8, b: u8) -> u8
+    ensures { λ r. ⌜ r ≡ min a b ⌝ }
+{
+    if b < a { b } else { a }
+}
+
+fn greater(a: u8, b: u8) -> u8
+    ensures { λ r. ⌜ r ≡ max a b ⌝ }
+{
+    if a < b { b } else { a }
+}
+
+// By the least and the greatest character. The loop has one way out, so that the compiler takes sixteen characters at a time.
 fn all_printable(chars: &[u8]) -> bool
     ensures { λ r. ⌜ r ≡ allPrintable (now (chars .entry)) ⌝ }
 {
+    let mut low = 126;
+    let mut high = 32;
     let mut i = 0;
     while i < chars.len() {
-        let text = is_printable(chars[i]);
-        if !text {
-            return false;
-        }
+        low = lesser(low, chars[i]);
+        high = greater(high, chars[i]);
         i += 1;
     }
-    true
+    32 <= low && high <= 126
 }
 
 // The cursor is on the screen, and at most six bytes are held.

@@ -4,12 +4,12 @@ use native.Mathlib.Nat.{add-zero, add-suc, suc-add}
 use native.Mathlib.Numerals.{add-one}
 use native.Mathlib.Omega.{arith}
 use mathlib.Core.Path.{_≡_, refl, sym, ap, _∙_}
-use mathlib.Core.Bool.{Bool, true, false}
+use mathlib.Core.Bool.{Bool, true, false, not, _&&_}
 use mathlib.Core.List.{List, [], _∷_, _++_, map, append-nil}
 use lib.Dec.{eqb, ltb}
 use lib.ListN.{length, take, drop, getD, length-drop, drop-of-length-le}
 use lib.Seq.{drop-cons, getD-drop, length-take-le}
-use borrow.Author.Tests.{eqb-true, eqb-false, eq-eqb, ne-eqb, ltb-true, ltb-false, lt-ltb, le-ltb}
+use borrow.Author.Tests.{not-true, eqb-true, eqb-false, eq-eqb, ne-eqb, ltb-true, ltb-false, lt-ltb, le-ltb}
 use Rattle.telnet.specs.If.{if_then_else_}
 use Rattle.telnet.specs.declared.Phase.{Phase}
 use Rattle.telnet.specs.declared.Phase.the-variants.{Rest, Iac, Inside, InsideIac}
@@ -36,6 +36,14 @@ module _ (s : List ℕ) (i : ℕ) where
   pub end-past : length s ≤ i → dataEnd s i ≡ i
   unfolding dataEnd beforeIac
   end-past h = rw (drop-of-length-le s h, add-zero)
+
+-- none of the bytes so far is IAC, and this one is not
+pub end-more : (s : List ℕ) (from i : ℕ) (all : Bool) → (all ≡ true → dataEnd s from ≡ dataEnd s (from + i)) → from + i < length s
+    → (all && not (eqb (getD s (from + i) 0) iac)) ≡ true → dataEnd s from ≡ dataEnd s (from + (i + 1))
+end-more s from i true h w e =
+    let a : from + (i + 1) ≡ from + i + 1 = omega arith in
+    rw a (h refl ∙ end-skip s (from + i) w (eqb-false _ _ (not-true _ e)))
+end-more s from i false h w e = let z : _≡_ {A = ℕ} 0 1 = cc in absurd (omega arith)
 
 -- n bytes stand before the first IAC: none of them is IAC, and IAC is next, if any byte is.
 record Before (bs : List ℕ) (n : ℕ) : Type 0 where

@@ -1,6 +1,9 @@
 // Stretches of bytes without IAC. At rest each of them is data, in a subnegotiation a byte of its payload, so whoever reads a
 // whole slice need not ask the reader about each.
 ghost use mathlib.Core.Path.{_≡_};
+ghost use mathlib.Core.Bool.{true, _&&_};
+ghost use Prim.Native.Nat.{_+_, _≤_};
+ghost use lib.ListN.{length};
 ghost use Rattle.telnet.specs.Stream.{dataEnd, stretchOf};
 use crate::Phase;
 use crate::code::IAC;
@@ -13,11 +16,49 @@ pub struct Stretch {
     pub phase: Phase,
 }
 
+fn both(a: bool, b: bool) -> bool
+    ensures { λ r. ⌜ r ≡ (a && b) ⌝ }
+{
+    if a { b } else { false }
+}
+
+// No IAC among the next 64 bytes? The loop has one way out, so that the compiler tests many at once.
+fn all_data(input: &[u8], from: usize) -> bool
+    requires { ⌜ from + 64 ≤ length (now input) ⌝ }
+    ensures { λ r. ⌜ (r ≡ true → dataEnd (now (input .entry)) from ≡ dataEnd (now (input .entry)) (from + 64)) ⌝ }
+{
+    let mut all = true;
+    let mut i = 0;
+    while i < 64 {
+        all = both(all, input[from + i] != IAC);
+        i += 1;
+    }
+    all
+}
+
+// A place from which the first IAC is the same.
+fn skip_data(input: &[u8], from: usize) -> usize
+    ensures { λ r. ⌜ dataEnd (now (input .entry)) from ≡ dataEnd (now (input .entry)) r ⌝ }
+{
+    let mut at = from;
+    while at < input.len() {
+        if input.len() - at < 64 {
+            break;
+        }
+        let all = all_data(input, at);
+        if !all {
+            break;
+        }
+        at += 64;
+    }
+    at
+}
+
 // The first IAC from `from` on; none, the input's end; where `from` is past the end, `from`.
 fn data_end(input: &[u8], from: usize) -> usize
     ensures { λ r. ⌜ r ≡ dataEnd (now (input .entry)) from ⌝ }
 {
-    let mut at = from;
+    let mut at = skip_data(input, from);
     while at < input.len() {
         if input[at] == IAC {
             return at;

@@ -2,9 +2,9 @@
 use mathlib.Core.Path.{_≡_}
 use mathlib.Core.List.{List, [], _∷_, _++_}
 use Prim.Native.Nat.{ℕ}
-use lib.ListN.{length}
+use lib.ListN.{length, take}
 use Rattle.rules.specs.declared.Frame.{Frame}
-use Rattle.rules.specs.Session.{Screen, View, view}
+use Rattle.rules.specs.Session.{Screen, View, screen, view}
 use Rattle.rules.specs.Effect.{Effect, changedAll, spelledAll, changing, quiet}
 use Rattle.rules.specs.Telnet.{hostData}
 use Rattle.command.specs.inner.Frame.{Fits}
@@ -35,3 +35,11 @@ hostText v (b ∷ bs) =
     let one = hostData v b in
     let rest = hostText (one .view) bs in
     changing (rest .view) (one .changes ++ rest .changes)
+
+-- what the first `at` bytes do
+abbrev pub Texted : (attrs bytes : List ℕ) (f₀ : Frame) (chars₀ : List ℕ) (at : ℕ) (f : Frame) (chars : List ℕ) → Type 0
+Texted attrs bytes f₀ chars₀ at f chars = Changes (hostText (view f₀ attrs) (take at bytes)) (screen chars₀ attrs) f chars
+
+-- where the first `from` bytes lead to f and chars, the first `end` lead to f′ and chars′
+pub record TextStep (attrs bytes : List ℕ) (from : ℕ) (f : Frame) (chars : List ℕ) (end : ℕ) (f′ : Frame) (chars′ : List ℕ) : Type 0 where
+  pub on : (f₀ : Frame) (chars₀ : List ℕ) → Texted attrs bytes f₀ chars₀ from f chars → Texted attrs bytes f₀ chars₀ end f′ chars′

@@ -11,9 +11,9 @@ apply-spec =
     (λ c κs. search needs) (λ c κs. search needs) (λ c κs. search needs) (λ c. search needs) (λ c. search needs) (λ c. search needs)
     (λ c. let f = c .before .before in
     let d = f .before .before .before .before in
-    let done = d .change-chars .ensures in
+    let done = d .change-any .ensures in
     record {
       changes = record { frame = done .frame; characters = done .characters };
       attributes = f .format-attrs .ensures;
-      replies = let w = d .before .before .before .before .before in said (w .before .before .before .before .before .before .before .pre) (w .write-reply .ensures);
+      replies = let w = d .before .before .before .before .before in said (w .before .before .before .before .before .before .before .pre) (w .say-any .ensures);
     }))

@@ -1,5 +1,5 @@
 -- `data_end` meets its contract. The loop's invariant: the answer from the start is the answer from here.
-use mathlib.Core.Path.{_≡_, refl, sym, _∙_}
+use mathlib.Core.Path.{_≡_, sym, _∙_}
 use Prim.Native.Nat.{_-_}
 use borrow.Author.Needs.{needs}
 use lib.ListN.{length}
@@ -14,11 +14,12 @@ data-end-spec =
     (tie.spec
     (λ input from at₀ at. dataEnd input from ≡ dataEnd input at)
     (λ input from at₀ at. length input - at)
-    (λ c. refl)
+    (λ c κs. search needs)
+    (λ c. c .skip-data .ensures)
     (λ c. search needs)
     (λ c. let l = c .before .before .before in
-    sym (l .loop .inv ∙ end-hit (l .before .args .input .now) (l .loop .at) (c .before .before .loop-test .taken) (c .if1 .taken)))
+    sym (l .loop .inv ∙ end-hit (l .before .before .before .args .input .now) (l .loop .at) (c .before .before .loop-test .taken) (c .if1 .taken)))
     (λ c. search needs) (λ c. search needs)
     (λ c. let l = c .before .before .before in
-    l .loop .inv ∙ end-skip (l .before .args .input .now) (l .loop .at) (c .before .before .loop-test .taken) (c .if1 .left))
+    l .loop .inv ∙ end-skip (l .before .before .before .args .input .now) (l .loop .at) (c .before .before .loop-test .taken) (c .if1 .left))
     (λ c. sym (c .before .loop .inv ∙ end-past _ (c .before .loop .at) (c .loop-test .left))))

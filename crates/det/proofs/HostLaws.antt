@@ -9,7 +9,7 @@ use lib.Seq.{length-take-le}
 use Rattle.telnet.specs.Stream.{part}
 use Rattle.telnet.proofs.PartLaws.{part-none, part-one, part-then, part-rest}
 use Rattle.rules.specs.declared.Refusal.the-variants.{Taken}
-use Rattle.rules.specs.Session.{Screen, State, replyRoom, state}
+use Rattle.rules.specs.Session.{Screen, State, replyRoom, session, state}
 use Rattle.rules.specs.Operation.{Ran, outcome, hostByte, running, takenOf}
 use Rattle.rules.proofs.Sound.{Sound, sound-running, passes}
 use Rattle.rules.proofs.Room.{room-byte}
@@ -78,7 +78,7 @@ module _ (s : State) (reply : List ℕ) (at : ℕ) (a : Accepts s reply at) wher
 
     -- a turn that draws no reply
     pub taking-quiet : {t : Turn} {b : Screen} → QuietTurn s input from at t b
-        → (from < t .end) × Taking s input from reply at (state (t .session) b) (t .end) reply (t .written)
+        → (from < t .end) × Taking s input from reply at (state (session (t .frame) (t .reader)) b) (t .end) reply (t .written)
     taking-quiet {t} {b} r =
         let end = t .end in
         let onward : from ≤ end = omega (arith, r .further) in

@@ -98,7 +98,7 @@ module _ (input : List ℕ) (from : ℕ) (p : Phase) where
 
 -- a turn that ends with a stretch
 abbrev turn : Stretch → Frame → Held → ℕ → Turn
-turn t f held at = record { session = session f (record { phase = t .phase; held = held }); end = t .next; written = at }
+turn t f held at = record { frame = f; reader = record { phase = t .phase; held = held }; end = t .next; written = at }
 
 module _ {input : List ℕ} {from : ℕ} (h : from < length input) (p : Phase) {t : Stretch} (e : t ≡ stretchOf p input from) where
   pub lies : Lies input from t

@@ -75,20 +75,25 @@ fn take_all(
         ≡ hostTaken (state session (lent (chars .entry) (attrs .entry))) (now (reply .entry)) (now (input .entry)) ⌝ }
 {
     let room = reply_room(session.frame);
-    let mut now = session;
+    let mut frame = session.frame;
+    let mut reader = session.reader;
     let mut taken = 0;
     let mut written = 0;
     while taken < input.len() {
         if reply.len() - written < room {
             break;
         }
-        let turn = take_turn(now, input, taken, chars, attrs, reply, written);
-        now = turn.session;
+        let turn = take_turn(frame, reader, input, taken, chars, attrs, reply, written);
+        frame = turn.frame;
+        reader = turn.reader;
         taken = turn.end;
         written = turn.written;
     }
     Answer {
-        session: now,
+        session: Session {
+            frame: frame,
+            reader: reader,
+        },
         refusal: Refusal::Taken,
         taken: taken,
         written: written,

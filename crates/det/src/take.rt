@@ -3,7 +3,7 @@ ghost use mathlib.Core.Path.{_≡_};
 ghost use Prim.Native.Nat.{_<_};
 ghost use lib.ListN.{length};
 ghost use Rattle.telnet.specs.declared.Phase.the-variants.{Rest, Inside};
-ghost use Rattle.rules.specs.Session.{Screen, state};
+ghost use Rattle.rules.specs.Session.{Screen, session, state};
 ghost use Rattle.rules.specs.Operation.{happening};
 ghost use Rattle.command.specs.Frame.{seen};
 ghost use Rattle.det.specs.Lent.{lent};
@@ -20,15 +20,16 @@ use decide::obey::decide_end;
 use rules::Frame;
 use rules::Held;
 use rules::Reader;
-use rules::Session;
 use telnet::Event;
 use telnet::Phase;
 use telnet::read;
 use telnet::stretch::stretch_at;
 
-// Where some bytes leave the session, where they end in the input, and where the next reply goes.
+// Where some bytes leave the frame and the reader, where they end in the input, and where the next reply goes. The session is not
+// handed on whole: it will grow, and a turn is short.
 pub struct Turn {
-    pub session: Session,
+    pub frame: Frame,
+    pub reader: Reader,
     pub end: usize,
     pub written: usize,
 }
@@ -73,7 +74,8 @@ fn happen(
 
 // One byte, by the reader.
 fn take_byte(
-    session: Session,
+    frame: Frame,
+    reader: Reader,
     input: &[u8],
     from: usize,
     chars: &mut [u8],
@@ -81,27 +83,25 @@ fn take_byte(
     reply: &mut [u8],
     at: usize,
 ) -> Turn
-    requires { ⌜ Accepts (state session (lent chars attrs)) (now reply) at ⌝ }
+    requires { ⌜ Accepts (state (session frame reader) (lent chars attrs)) (now reply) at ⌝ }
     requires { ⌜ from < length (now input) ⌝ }
     ensures { λ r. ⌜ from < r .end ⌝ }
-    ensures { λ r. ⌜ Taking (state session (lent (chars .entry) (attrs .entry))) (now (input .entry)) from
-        (now (reply .entry)) at (state (r .session) (lent (chars .exit) (attrs .exit))) (r .end) (now (reply .exit)) (r .written) ⌝ }
+    ensures { λ r. ⌜ Taking (state (session frame reader) (lent (chars .entry) (attrs .entry))) (now (input .entry)) from
+        (now (reply .entry)) at (state (session (r .frame) (r .reader)) (lent (chars .exit) (attrs .exit))) (r .end)
+        (now (reply .exit)) (r .written) ⌝ }
 {
-    let reader = session.reader;
     let phase = reader.phase;
     let held = reader.held;
     let step = read(phase, input[from]);
     let event = step.event;
-    let done = happen(session.frame, held, event, chars, attrs, reply, at);
+    let done = happen(frame, held, event, chars, attrs, reply, at);
     let after = done.frame;
     let next = step.phase;
     Turn {
-        session: Session {
-            frame: after,
-            reader: Reader {
-                phase: next,
-                held: held_after(held, event),
-            },
+        frame: after,
+        reader: Reader {
+            phase: next,
+            held: held_after(held, event),
         },
         end: from + 1,
         written: done.written,
@@ -110,32 +110,30 @@ fn take_byte(
 
 // At rest: the data up to the next IAC, and that IAC.
 fn take_text(
-    session: Session,
+    frame: Frame,
+    reader: Reader,
     input: &[u8],
     from: usize,
     chars: &mut [u8],
     attrs: &[u8],
     at: usize,
 ) -> Turn
-    requires { ⌜ session .reader .phase ≡ Rest ⌝ }
+    requires { ⌜ reader .phase ≡ Rest ⌝ }
     requires { ⌜ from < length (now input) ⌝ }
-    ensures { λ r. ⌜ QuietTurn (state session (lent (chars .entry) (attrs .entry))) (now (input .entry)) from at
+    ensures { λ r. ⌜ QuietTurn (state (session frame reader) (lent (chars .entry) (attrs .entry))) (now (input .entry)) from at
         r (lent (chars .exit) (attrs .entry)) ⌝ }
 {
-    let reader = session.reader;
     let phase = reader.phase;
     let stretch = stretch_at(phase, input, from);
     let end = stretch.end;
-    let after = host_text(session.frame, &input[from..end], chars, attrs);
+    let after = host_text(frame, &input[from..end], chars, attrs);
     let next = stretch.phase;
     let held = reader.held;
     Turn {
-        session: Session {
-            frame: after,
-            reader: Reader {
-                phase: next,
-                held: held,
-            },
+        frame: after,
+        reader: Reader {
+            phase: next,
+            held: held,
         },
         end: stretch.next,
         written: at,
@@ -143,26 +141,29 @@ fn take_text(
 }
 
 // In the subnegotiation of this option: its bytes up to the next IAC, and that IAC.
-fn take_payload(option: u8, session: Session, input: &[u8], from: usize, at: usize) -> Turn
-    requires { ⌜ session .reader .phase ≡ Inside option ⌝ }
+fn take_payload(
+    option: u8,
+    frame: Frame,
+    reader: Reader,
+    input: &[u8],
+    from: usize,
+    at: usize,
+) -> Turn
+    requires { ⌜ reader .phase ≡ Inside option ⌝ }
     requires { ⌜ from < length (now input) ⌝ }
-    ensures { λ r. ⌜ ((b : Screen) → QuietTurn (state session b) (now (input .entry)) from at r b) ⌝ }
+    ensures { λ r. ⌜ ((b : Screen) → QuietTurn (state (session frame reader) b) (now (input .entry)) from at r b) ⌝ }
 {
-    let reader = session.reader;
     let phase = reader.phase;
     let stretch = stretch_at(phase, input, from);
     let end = stretch.end;
     let held = reader.held;
     let after = hold_all(held, &input[from..end]);
     let next = stretch.phase;
-    let frame = session.frame;
     Turn {
-        session: Session {
-            frame: frame,
-            reader: Reader {
-                phase: next,
-                held: after,
-            },
+        frame: frame,
+        reader: Reader {
+            phase: next,
+            held: after,
         },
         end: stretch.next,
         written: at,
@@ -171,7 +172,8 @@ fn take_payload(option: u8, session: Session, input: &[u8], from: usize, at: usi
 
 // A stretch where the reader stands in one, else a byte: the phase is looked at once for either.
 pub(crate) fn take_turn(
-    session: Session,
+    frame: Frame,
+    reader: Reader,
     input: &[u8],
     from: usize,
     chars: &mut [u8],
@@ -179,17 +181,17 @@ pub(crate) fn take_turn(
     reply: &mut [u8],
     at: usize,
 ) -> Turn
-    requires { ⌜ Accepts (state session (lent chars attrs)) (now reply) at ⌝ }
+    requires { ⌜ Accepts (state (session frame reader) (lent chars attrs)) (now reply) at ⌝ }
     requires { ⌜ from < length (now input) ⌝ }
     ensures { λ r. ⌜ from < r .end ⌝ }
-    ensures { λ r. ⌜ Taking (state session (lent (chars .entry) (attrs .entry))) (now (input .entry)) from
-        (now (reply .entry)) at (state (r .session) (lent (chars .exit) (attrs .exit))) (r .end) (now (reply .exit)) (r .written) ⌝ }
+    ensures { λ r. ⌜ Taking (state (session frame reader) (lent (chars .entry) (attrs .entry))) (now (input .entry)) from
+        (now (reply .entry)) at (state (session (r .frame) (r .reader)) (lent (chars .exit) (attrs .exit))) (r .end)
+        (now (reply .exit)) (r .written) ⌝ }
 {
-    let reader = session.reader;
     let phase = reader.phase;
     match phase {
-        Phase::Rest => take_text(session, input, from, chars, attrs, at),
-        Phase::Inside(option) => take_payload(option, session, input, from, at),
-        _ => take_byte(session, input, from, chars, attrs, reply, at),
+        Phase::Rest => take_text(frame, reader, input, from, chars, attrs, at),
+        Phase::Inside(option) => take_payload(option, frame, reader, input, from, at),
+        _ => take_byte(frame, reader, input, from, chars, attrs, reply, at),
     }
 }

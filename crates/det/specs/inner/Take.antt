@@ -9,7 +9,7 @@ use Rattle.rules.specs.declared.Answer.{Answer}
 use Rattle.rules.specs.declared.Session.{Session}
 use Rattle.rules.specs.declared.Refusal.{Refusal}
 use Rattle.rules.specs.declared.Refusal.the-variants.{Taken}
-use Rattle.rules.specs.Session.{Screen, State, state}
+use Rattle.rules.specs.Session.{Screen, State, session, state}
 use Rattle.rules.specs.Telnet.{holding}
 use Rattle.rules.specs.Operation.{Outcome, running, answering, takenOf, hostRefusal, hostRan, keyRan}
 use Rattle.reply.specs.inner.Reply.{Emitted}
@@ -43,7 +43,7 @@ pub record Taking (s : State) (input : List ℕ) (from : ℕ) (reply : List ℕ)
 pub record QuietTurn (s : State) (input : List ℕ) (from at : ℕ) (t : Turn) (b : Screen) : Type 0 where
   pub further : from < t .end
   pub within : t .end ≤ length input
-  pub ran : running s (part from (t .end) input) ≡ record { state = state (t .session) b; replies = []; executed = [] }
+  pub ran : running s (part from (t .end) input) ≡ record { state = state (session (t .frame) (t .reader)) b; replies = []; executed = [] }
   pub same : t .written ≡ at
 
 -- ---- what a call comes to

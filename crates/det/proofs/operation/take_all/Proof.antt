@@ -5,7 +5,7 @@ use native.Mathlib.Omega.{arith}
 use borrow.Author.Needs.{needs}
 use lib.ListN.{length}
 use Rattle.rules.proofs.Running.{taken-end, taken-full}
-use Rattle.rules.specs.Session.{screen, state}
+use Rattle.rules.specs.Session.{session, screen, state}
 use Rattle.det.specs.inner.Take.{Taking}
 use Rattle.det.proofs.HostLaws.{taking-none, taking-then, taking-room, taking-accepts, taking-done}
 use Rattle.det.proofs.operation.take_all.Statement.{statement}
@@ -15,22 +15,23 @@ pub take-all-spec : {M : Type 1} → statement M
 take-all-spec =
     tie.close
     (tie.spec
-    (λ input chars₀ attrs₀ reply₀ room now₀ taken₀ written₀ chars attrs reply now taken written.
-    Taking (state now₀ (screen chars₀ attrs₀)) input 0 reply₀ 0 (state now (screen chars attrs)) taken reply written
+    (λ input chars₀ attrs₀ reply₀ room frame₀ reader₀ taken₀ written₀ chars attrs reply frame reader taken written.
+    Taking (state (session frame₀ reader₀) (screen chars₀ attrs₀)) input 0 reply₀ 0
+    (state (session frame reader) (screen chars attrs)) taken reply written
     × (length chars ≡ length chars₀) × (length attrs ≡ length attrs₀) × (length reply ≡ length reply₀))
-    (λ input chars₀ attrs₀ reply₀ room now₀ taken₀ written₀ chars attrs reply now taken written. length input - taken)
+    (λ input chars₀ attrs₀ reply₀ room frame₀ reader₀ taken₀ written₀ chars attrs reply frame reader taken written. length input - taken)
     (λ c κs. search needs)
     (λ c. (taking-none (omega arith) (omega arith), refl, refl, refl))
     (λ c. search needs)
     (λ c κs. let i = c .before .before .before in
     let l = i .before .before in (
-      taking-accepts (l .loop .inv .0) (l .before .before .before .before .before .before .pre)
-          (omega (arith, l .before .reply-room .ensures, i .if1 .left)),
+      taking-accepts (l .loop .inv .0) (l .before .before .before .before .before .before .before .before .pre)
+          (omega (arith, l .before .before .before .reply-room .ensures, i .if1 .left)),
       i .before .loop-test .taken,
     ))
-    (λ c. let t = c .before .before .before .before .before .before .before in
+    (λ c. let t = c .before .before .before .before .before .before .before .before in
     omega (arith, t .take-turn .ensures .0, t .before .before .before .before .before .loop-test .taken))
-    (λ c. let t = c .before .before .before .before .before .before .before in (
+    (λ c. let t = c .before .before .before .before .before .before .before .before in (
       taking-then (t .before .before .before .before .before .before .loop .inv .0) (t .take-turn .ensures .1),
       search needs,
       search needs,
@@ -40,5 +41,5 @@ take-all-spec =
     (λ c. let l = c .before in taking-done (l .loop .inv .0) (taken-end _ _ _ _ (c .loop-test .left)))
     (λ c. search needs) (λ c. search needs) (λ c. search needs)
     (λ c. let l = c .before .before in
-    let same = taking-room (l .loop .inv .0) (l .before .before .before .before .before .before .pre) in
-    taking-done (l .loop .inv .0) (taken-full _ _ _ (omega (arith, same, l .before .reply-room .ensures, c .if1 .taken)))))
+    let same = taking-room (l .loop .inv .0) (l .before .before .before .before .before .before .before .before .pre) in
+    taking-done (l .loop .inv .0) (taken-full _ _ _ (omega (arith, same, l .before .before .before .reply-room .ensures, c .if1 .taken)))))

@@ -10,12 +10,11 @@ take-payload-spec =
     tie.close
     (tie.spec
     (λ c κs. search needs)
-    (λ c. let s = c .before in lies (s .before .before .before .pre .1) _ (s .stretch-at .ensures) .onward)
-    (λ c. let s = c .before in lies (s .before .before .before .pre .1) _ (s .stretch-at .ensures) .onward)
+    (λ c. let s = c .before in lies (s .before .before .pre .1) _ (s .stretch-at .ensures) .onward)
+    (λ c. let s = c .before in lies (s .before .before .pre .1) _ (s .stretch-at .ensures) .onward)
     (λ c. let s = c .before in
-    let l = lies (s .before .before .before .pre .1) _ (s .stretch-at .ensures) in omega (arith, l .forth, l .within))
+    let l = lies (s .before .before .pre .1) _ (s .stretch-at .ensures) in omega (arith, l .forth, l .within))
     (λ c κs. search needs)
-    (λ c b. let h = c .before in
-    let s = h .before .before .before in
-    let start = s .before .before .before in
-    payload-turn (start .pre .1) _ (s .stretch-at .ensures) _ _ (start .pre .0) (h .hold-all .ensures)))
+    (λ c b. let s = c .before .before .before in
+    let start = s .before .before in
+    payload-turn (start .pre .1) _ (s .stretch-at .ensures) _ _ (start .pre .0) (c .hold-all .ensures)))

@@ -10,11 +10,11 @@ take-text-spec =
     tie.close
     (tie.spec
     (λ c κs. search needs)
-    (λ c. lies (c .before .before .before .before .before .pre .1) _ (c .stretch-at .ensures) .onward)
-    (λ c. lies (c .before .before .before .before .before .pre .1) _ (c .stretch-at .ensures) .onward)
-    (λ c. let l = lies (c .before .before .before .before .before .pre .1) _ (c .stretch-at .ensures) in omega (arith, l .forth, l .within))
+    (λ c. lies (c .before .before .before .before .pre .1) _ (c .stretch-at .ensures) .onward)
+    (λ c. lies (c .before .before .before .before .pre .1) _ (c .stretch-at .ensures) .onward)
+    (λ c. let l = lies (c .before .before .before .before .pre .1) _ (c .stretch-at .ensures) in omega (arith, l .forth, l .within))
     (λ c κs. search needs) (λ c. search needs)
     (λ c. let t = c .before .before .before in
     let s = t .before .before .before in
-    let start = s .before .before .before .before .before in
+    let start = s .before .before .before .before in
     text-turn (start .pre .1) _ (s .stretch-at .ensures) _ (start .pre .0) (t .host-text .ensures)))

@@ -9,15 +9,15 @@ take-turn-spec =
     tie.close
     (tie.spec
     (λ c. search needs)
-    (λ c κs. let t = c .before .before in (t .enum-told .given .1, t .before .before .before .before .before .before .before .pre .1))
+    (λ c κs. let t = c .before .before in (t .enum-told .given .1, t .before .before .before .before .before .before .pre .1))
     (λ c. search needs)
-    (λ c κs. let t = c .before in (t .phase .given .1, t .before .before .before .before .before .before .before .pre .1))
-    (λ c κs. c .before .before .before .before .before .before .before .before .before .pre)
+    (λ c κs. let t = c .before in (t .phase .given .1, t .before .before .before .before .before .before .pre .1))
+    (λ c κs. c .before .before .before .before .before .before .before .before .pre)
     (λ c. search needs) (λ c. search needs)
     (λ c. let t = c .before .before in
-    let start = t .before .before .before .before .before .before .before .before .before .before in
+    let start = t .before .before .before .before .before .before .before .before .before in
     taking-quiet _ _ _ (start .pre .0) (t .take-text .ensures))
-    (λ c. let start = c .before .before .before .before .before .before .before .before .before in
+    (λ c. let start = c .before .before .before .before .before .before .before .before in
     taking-quiet _ _ _ (start .pre .0) (c .take-payload .ensures _))
     (λ c. search needs) (λ c. search needs) (λ c. search needs)
     (λ c. c .before .before .before .before .before .before .take-byte .ensures))

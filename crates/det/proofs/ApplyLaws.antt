@@ -19,7 +19,7 @@ use Rattle.decide.specs.declared.decision.Edit.{Edit}
 use Rattle.decide.specs.declared.decision.Edit.the-variants.{Nothing, Put, Erase, Shift, Repeat}
 use Rattle.decide.specs.Decision.{edited}
 use Rattle.decide.specs.inner.Decision.{changesOf, Once}
-use Rattle.det.specs.inner.Apply.{Changes}
+use Rattle.text.specs.Text.{Changes}
 
 -- what the other arm of a match on Repeat knows
 pub not-repeat : (edit : Edit) → OneOf (0 ∷ 1 ∷ 2 ∷ 3 ∷ []) (tagOf the-type edit) → Once edit

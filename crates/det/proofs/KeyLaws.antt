@@ -25,7 +25,7 @@ use Rattle.reply.specs.Written.{Wrote}
 use Rattle.reply.specs.Pieces.{sayPieces}
 use Rattle.reply.specs.inner.Reply.{Sayable}
 use Rattle.reply.proofs.ReplyLaws.{said}
-use Rattle.det.specs.inner.Apply.{Changes}
+use Rattle.text.specs.Text.{Changes}
 use Rattle.det.specs.inner.Take.{Accepts, keyTaken}
 use Rattle.det.proofs.ReplyLaws.{emitted-whole}
 use Rattle.det.proofs.RefuseLaws.{passed-on, failed-first}

@@ -1,9 +1,7 @@
-pub mod WriteLaws
 pub mod ReplyLaws
 pub mod ApplyLaws
 pub mod QuietLaws
 pub mod LoopLaws
-pub mod PlainLaws
 pub mod RefuseLaws
 pub mod SettleLaws
 pub mod TakeLaws

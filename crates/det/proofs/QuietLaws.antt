@@ -21,9 +21,9 @@ use Rattle.rules.specs.Operation.{Ran, happening, hostByte, applied, running}
 use Rattle.rules.proofs.Characters.{changed-append}
 use Rattle.rules.proofs.Running.{running-append}
 use Rattle.det.specs.declared.take.Turn.{Turn}
-use Rattle.det.specs.inner.Apply.{Changes, hostText}
+use Rattle.text.specs.Text.{Changes, hostText}
 use Rattle.det.specs.inner.Take.{holdingAll, QuietTurn}
-use Rattle.det.proofs.TakeLaws.{data-only}
+use Rattle.text.proofs.TextLaws.{data-only}
 
 -- nothing sent, nothing executed
 abbrev still : State → Ran

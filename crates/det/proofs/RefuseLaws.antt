@@ -1,11 +1,11 @@
 -- Laws of refusals: lists of tests, the sizes, and the least and the greatest character.
-use mathlib.Core.Path.{_≡_, refl, sym, _∙_}
+use mathlib.Core.Path.{_≡_, refl}
 use mathlib.Core.Bool.{Bool, true, false, not, _&&_}
 use mathlib.Core.List.{List, [], _∷_, _++_}
 use Prim.Native.Nat.{ℕ, suc, _+_, _*_, _≤_, _<_, min, max}
 use native.Mathlib.Omega.{arith}
 use native.Mathlib.Numerals.{add-one}
-use borrow.Author.Tests.{not-true, not-false, leb-true, leb-false, le-leb, lt-leb}
+use borrow.Author.Tests.{leb-true, leb-false, le-leb, lt-leb}
 use lib.Dec.{leb}
 use lib.ListN.{length, getD, drop}
 use lib.Seq.{drop-cons}
@@ -16,16 +16,6 @@ use Rattle.rules.specs.declared.Refusal.the-variants.{Taken}
 use Rattle.rules.specs.Session.{sizesOk, allPrintable}
 use Rattle.rules.specs.Refusal.{Test, isTaken, verdict}
 use Rattle.rules.proofs.Refusals.{refuses}
-
--- ---- a test that the code makes
-
-module _ {found test : Bool} (e : found ≡ test) where
-  -- what `if !found` knows, and what comes after it
-  pub failing : not found ≡ true → test ≡ false
-  failing h = sym e ∙ not-true found h
-
-  pub passing : not found ≡ false → test ≡ true
-  passing h = sym e ∙ not-false found h
 
 -- ---- some tests, and then others
 

@@ -3,7 +3,6 @@ use mathlib.Core.Path.{_≡_, refl, sym, ap, _∙_}
 use mathlib.Core.List.{List, [], _∷_}
 use Prim.Native.Nat.{ℕ, _+_, _≤_}
 use native.Mathlib.Omega.{arith}
-use lib.Dec.{eqb}
 use lib.ListN.{length, drop, length-drop}
 use types.Run.{OneOf, miss}
 use denote.Enum.Declared.{tagOf}
@@ -12,16 +11,14 @@ use Rattle.telnet.specs.declared.Event.{Event}
 use Rattle.telnet.specs.declared.Event.the-variants.{Nothing, Data, Negotiation, Begin, Sub, End, EndBare, Lost}
 use Rattle.telnet.specs.declared.Step.{Step}
 use Rattle.telnet.specs.Reader.{readOf}
-use Rattle.screen.proofs.WordLaws.{either}
 use Rattle.rules.specs.declared.Held.{Held}
 use Rattle.rules.specs.declared.Frame.{Frame}
 use Rattle.rules.specs.declared.Refusal.{Refusal}
 use Rattle.rules.specs.declared.Refusal.the-variants.{Taken}
-use Rattle.rules.specs.Session.{Screen, State, View, printable, replyRoom, session, screen, state, view, viewOf}
+use Rattle.rules.specs.Session.{Screen, State, View, replyRoom, session, screen, state, view, viewOf}
 use Rattle.rules.specs.Refusal.{isTaken}
-use Rattle.rules.specs.Effect.{Effect, changedAll, spelledAll, changing, quiet}
-use Rattle.rules.specs.Telnet.{heldAfter, hostCharacter, hostData}
-use Rattle.rules.specs.Cursor.{cursorGuarded}
+use Rattle.rules.specs.Effect.{Effect, changedAll, spelledAll, quiet}
+use Rattle.rules.specs.Telnet.{heldAfter, hostData}
 use Rattle.rules.specs.Operation.{applied, happening, hostByte, hostRefusal}
 use Rattle.rules.specs.Call.{host}
 use Rattle.rules.proofs.Sound.{Accepted, sound-of}
@@ -32,8 +29,10 @@ use Rattle.det.specs.declared.apply.Applied.{Applied}
 use Rattle.command.specs.inner.Frame.{Fits}
 use Rattle.decide.specs.Decision.{meant, shown, partsOf, Sendable, Decides}
 use Rattle.reply.specs.inner.Reply.{Emitted, Sayable}
-use Rattle.det.specs.inner.Apply.{Changes, Applies, Answerable}
+use Rattle.text.specs.Text.{Changes}
+use Rattle.det.specs.inner.Apply.{Applies, Answerable}
 use Rattle.det.specs.inner.Take.{Accepts}
+use Rattle.text.proofs.TextLaws.{data-only}
 use Rattle.det.proofs.ReplyLaws.{emitted-none}
 
 -- ---- what is done on an event
@@ -80,15 +79,6 @@ idle v h EndBare k = refl
 idle v h Lost k = refl
 
 -- ---- host data
-
--- it keeps the attribute bytes, and draws no reply
-pub data-only : (v : View) (b : ℕ) → let e = hostData v b in e ≡ changing (view (e .view .frame) (v .attrs)) (e .changes)
-unfolding hostData hostCharacter
-data-only v b =
-    let only : Effect → Type 0 = λ e. e ≡ changing (view (e .view .frame) (v .attrs)) (e .changes) in
-    either only (printable b)
-    (λ t. either only (cursorGuarded v) (λ g. refl) (λ g. refl))
-    (λ t. either only (eqb b 13) (λ p. refl) (λ p. either only (eqb b 10) (λ q. refl) (λ q. either only (eqb b 8) (λ r. refl) (λ r. refl))))
 
 pub data-applies : (f : Frame) (byte : ℕ) {f′ : Frame} {b : Screen} {chars reply : List ℕ} {at : ℕ}
     → Changes (hostData (view f (b .attrs)) byte) b f′ chars

@@ -1,3 +1,2 @@
 pub mod Apply
-pub mod Plain
 pub mod Take

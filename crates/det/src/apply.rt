@@ -7,10 +7,9 @@ ghost use Rattle.decide.specs.inner.Decision.{changesOf};
 ghost use Rattle.reply.specs.Pieces.{sayPieces};
 ghost use Rattle.reply.specs.Written.{Wrote};
 ghost use Rattle.reply.specs.inner.Reply.{Sayable};
-ghost use Rattle.det.specs.Lent.{lent};
-ghost use Rattle.det.specs.inner.Apply.{Changes, Applies};
-use crate::data::put_character;
-use crate::data::set_cell;
+ghost use Rattle.text.specs.Lent.{lent};
+ghost use Rattle.text.specs.Text.{Changes};
+ghost use Rattle.det.specs.inner.Apply.{Applies};
 use decide::decision::Decision;
 use decide::decision::Edit;
 use decide::decision::Format;
@@ -20,6 +19,8 @@ use rules::Frame;
 use screen::edit::erase;
 use screen::edit::format;
 use screen::edit::shift_range;
+use text::data::put_character;
+use text::data::set_cell;
 
 pub struct Applied {
     pub frame: Frame,

@@ -1,10 +1,8 @@
 // The data entry terminal: open, host bytes, one key. Each decides first, from the session and the attribute bytes alone, and only
 // then touches the characters: a function that decides has no `chars` parameter.
 mod apply;
-mod data;
 mod held;
 pub mod number;
 pub mod operation;
-mod plain;
 mod refuse;
 mod take;

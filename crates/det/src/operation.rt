@@ -3,7 +3,7 @@ ghost use mathlib.Core.Path.{_≡_};
 ghost use mathlib.Core.List.{[]};
 ghost use Rattle.rules.specs.Session.{session, fresh, state};
 ghost use Rattle.rules.specs.Operation.{outcome, opened, hostBytes, keyRefusal, oneKey};
-ghost use Rattle.det.specs.Lent.{lent};
+ghost use Rattle.text.specs.Lent.{lent};
 ghost use Rattle.det.specs.inner.Take.{Accepts, refusedAnswer, hostTaken, keyTaken};
 use crate::apply::change_chars;
 use crate::refuse::refuse;

@@ -4,7 +4,7 @@ ghost use Prim.Native.Nat.{min, max};
 ghost use Rattle.rules.specs.Session.{sizesOk, replyRoom, freshFrame, allPrintable, sessionOk, state};
 ghost use Rattle.rules.specs.Refusal.{verdict, sizeTests, stateTests};
 ghost use Rattle.rules.specs.Operation.{hostRefusal};
-ghost use Rattle.det.specs.Lent.{lent};
+ghost use Rattle.text.specs.Lent.{lent};
 use rules::Frame;
 use rules::Refusal;
 use rules::Session;

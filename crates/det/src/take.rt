@@ -6,13 +6,11 @@ ghost use Rattle.telnet.specs.declared.Phase.the-variants.{Rest, Inside};
 ghost use Rattle.rules.specs.Session.{Screen, session, state};
 ghost use Rattle.rules.specs.Operation.{happening};
 ghost use Rattle.command.specs.Frame.{seen};
-ghost use Rattle.det.specs.Lent.{lent};
+ghost use Rattle.text.specs.Lent.{lent};
 ghost use Rattle.det.specs.inner.Apply.{Answerable, Applies};
 ghost use Rattle.det.specs.inner.Take.{Accepts, Taking, QuietTurn};
 use crate::apply::Applied;
 use crate::apply::apply;
-use crate::data::host_text;
-use crate::data::take_data;
 use crate::held::hold_all;
 use command::held::held_after;
 use decide::negotiate::negotiate;
@@ -24,6 +22,8 @@ use telnet::Event;
 use telnet::Phase;
 use telnet::read;
 use telnet::stretch::stretch_at;
+use text::data::host_text;
+use text::data::take_data;
 
 // Where some bytes leave the frame and the reader, where they end in the input, and where the next reply goes. The session is not
 // handed on whole: it will grow, and a turn is short.

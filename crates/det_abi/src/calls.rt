@@ -6,7 +6,7 @@ ghost use mathlib.Core.List.{[]};
 ghost use lib.ListN.{length};
 ghost use Rattle.rules.specs.Refusal.{numberOf};
 ghost use Rattle.det_abi.specs.Layout.{sessionLength, encoded};
-ghost use Rattle.det.specs.Lent.{lent};
+ghost use Rattle.text.specs.Lent.{lent};
 ghost use Rattle.det_abi.specs.Calls.{result, openCall, hostCall, keyCall, keyByte, Gives};
 use crate::layout::SESSION_LENGTH;
 use crate::layout::decode;

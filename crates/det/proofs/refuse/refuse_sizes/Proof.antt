@@ -3,7 +3,8 @@ use borrow.Author.Needs.{needs}
 use native.Mathlib.Omega.{arith}
 use borrow.Author.Tests.{ne-eqb, eq-eqb}
 use Rattle.rules.specs.Refusal.{verdict, sizeTests}
-use Rattle.det.proofs.RefuseLaws.{failing, passing, few}
+use Rattle.text.proofs.TestLaws.{failing, passing}
+use Rattle.det.proofs.RefuseLaws.{few}
 use Rattle.det.proofs.refuse.refuse_sizes.Statement.{statement}
 use Rattle.det.proofs.refuse.refuse_sizes.Tie as tie
 

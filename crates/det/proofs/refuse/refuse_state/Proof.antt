@@ -2,7 +2,7 @@
 use borrow.Author.Needs.{needs}
 use borrow.Author.Tests.{le-leb, lt-leb}
 use Rattle.rules.specs.Refusal.{verdict, stateTests}
-use Rattle.det.proofs.RefuseLaws.{failing, passing}
+use Rattle.text.proofs.TestLaws.{failing, passing}
 use Rattle.det.proofs.refuse.refuse_state.Statement.{statement}
 use Rattle.det.proofs.refuse.refuse_state.Tie as tie
 

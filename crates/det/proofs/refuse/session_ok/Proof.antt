@@ -1,7 +1,7 @@
 -- `session_ok` meets its contract: the cursor, then the count of held bytes.
 use borrow.Author.Needs.{needs}
 use Rattle.rules.specs.Session.{sessionOk}
-use Rattle.det.proofs.RefuseLaws.{failing, passing}
+use Rattle.text.proofs.TestLaws.{failing, passing}
 use Rattle.det.proofs.refuse.session_ok.Statement.{statement}
 use Rattle.det.proofs.refuse.session_ok.Tie as tie
 

@@ -1,0 +1,4 @@
+pub mod TestLaws
+pub mod WriteLaws
+pub mod TextLaws
+pub mod PlainLaws

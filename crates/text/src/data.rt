@@ -1,0 +1,124 @@
+// Host data: characters are written into their cells, and the cursor moves.
+ghost use mathlib.Core.Path.{_≡_};
+ghost use Prim.Native.Nat.{_+_, _-_, _≤_, _<_};
+ghost use lib.ListN.{length, set};
+ghost use Rattle.screen.specs.Cells.{place};
+ghost use Rattle.rules.specs.Session.{printable, placed};
+ghost use Rattle.rules.specs.Telnet.{hostCharacter, hostData};
+ghost use Rattle.command.specs.Frame.{seen};
+ghost use Rattle.text.specs.Lent.{lent};
+ghost use Rattle.text.specs.Text.{Changes, hostText};
+ghost use Rattle.text.specs.inner.Text.{TextStep};
+ghost use Rattle.text.specs.inner.Plain.{Each};
+use crate::plain::count_characters;
+use crate::plain::last_counts;
+use crate::plain::open_run;
+use crate::plain::two_characters;
+use command::character::is_printable;
+use command::frame::cursor_cell;
+use command::frame::moved;
+use decide::text::Fate;
+use decide::text::control;
+use decide::text::write_host;
+use rules::Frame;
+use screen::cell::Column;
+use screen::cell::Place;
+use screen::text::copy_text;
+
+// A cell takes a character, where there is such a cell.
+pub fn set_cell(chars: &mut [u8], cell: usize, byte: u8)
+    ensures { λ _. ⌜ now (chars .exit) ≡ set (now (chars .entry)) cell byte ⌝ }
+{
+    if cell < chars.len() {
+        chars[cell] = byte;
+    }
+}
+
+// One character from the host: the frame after it.
+pub fn put_character(frame: Frame, byte: u8, chars: &mut [u8], attrs: &[u8]) -> Frame
+    ensures { λ r. ⌜ Changes (hostCharacter (seen frame (attrs .entry)) byte) (lent (chars .entry) (attrs .entry)) r (now (chars .exit)) ⌝ }
+{
+    let writing = write_host(frame, attrs, byte);
+    let fate = writing.fate;
+    let Fate::Written = fate else {
+        return frame;
+    };
+    set_cell(chars, cursor_cell(frame), byte);
+    writing.frame
+}
+
+// One byte of host data: the frame after it.
+pub fn take_data(frame: Frame, byte: u8, chars: &mut [u8], attrs: &[u8]) -> Frame
+    ensures { λ r. ⌜ Changes (hostData (seen frame (attrs .entry)) byte) (lent (chars .entry) (attrs .entry)) r (now (chars .exit)) ⌝ }
+{
+    let text = is_printable(byte);
+    if text {
+        return put_character(frame, byte, chars, attrs);
+    }
+    control(frame, byte)
+}
+
+// The cursor so many cells further on its line.
+fn gone_right(frame: Frame, count: usize) -> Frame
+    requires { ⌜ frame .cursor .x .0 + count < frame .width ⌝ }
+    ensures { λ r. ⌜ r ≡ placed frame (place (frame .cursor .x .0 + count) (frame .cursor .y .0)) ⌝ }
+{
+    let y = frame.cursor.y;
+    moved(
+        frame,
+        Place {
+            x: Column(frame.cursor.x.0 + count as u8),
+            y: y,
+        },
+    )
+}
+
+// Characters that stand in a row: the frame after them. As many as can go into their cells by one copy.
+fn put_text(
+    frame: Frame,
+    bytes: &[u8],
+    from: usize,
+    end: usize,
+    chars: &mut [u8],
+    attrs: &[u8],
+) -> Frame
+    requires { ⌜ (from ≤ end) × (end ≤ length (now bytes)) × Each printable (now bytes) from (end - from) ⌝ }
+    ensures { λ r. ⌜ TextStep (now (attrs .entry)) (now (bytes .entry)) from frame (now (chars .entry)) end r (now (chars .exit)) ⌝ }
+{
+    let mut now = frame;
+    let mut at = from;
+    while at < end {
+        let count = open_run(now, attrs, chars.len(), end - at);
+        if count == 0 {
+            let next = last_counts(now, attrs, at, end);
+            now = put_character(now, bytes[next - 1], chars, attrs);
+            at = next;
+            continue;
+        }
+        copy_text(bytes, chars, at, at + count, cursor_cell(now));
+        now = gone_right(now, count);
+        at += count;
+    }
+    now
+}
+
+// Data: the frame after it. It does what its bytes do one after the other.
+pub fn host_text(frame: Frame, bytes: &[u8], chars: &mut [u8], attrs: &[u8]) -> Frame
+    ensures { λ r. ⌜ Changes (hostText (seen frame (attrs .entry)) (now (bytes .entry)))
+        (lent (chars .entry) (attrs .entry)) r (now (chars .exit)) ⌝ }
+{
+    let mut now = frame;
+    let mut at = 0;
+    while at < bytes.len() {
+        let text = two_characters(bytes, at);
+        if !text {
+            now = take_data(now, bytes[at], chars, attrs);
+            at += 1;
+            continue;
+        }
+        let end = at + 2 + count_characters(bytes, at + 2);
+        now = put_text(now, bytes, at, end, chars, attrs);
+        at = end;
+    }
+    now
+}

@@ -1,0 +1,3 @@
+// Host data: characters are written into their cells, and the cursor moves. It is taken in rows where a row can go by one copy.
+pub mod data;
+mod plain;

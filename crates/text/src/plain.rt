@@ -177,8 +177,8 @@ fn room_on_line(frame: Frame, cells: usize) -> usize
     )
 }
 
-// How many characters, at most `most`, go into their cells by one copy: from the cursor on, before the last cell of its line, on a screen of
-// `cells` cells.
+// How many characters, at most `most`, go into their cells by one copy: from the cursor on, before the last cell of its line, on a
+// screen of `cells` cells.
 pub(crate) fn open_run(frame: Frame, attrs: &[u8], cells: usize, most: usize) -> usize
     ensures { λ r. ⌜ OpenRun frame (now (attrs .entry)) cells most r ⌝ }
 {
@@ -201,8 +201,8 @@ fn at_last_cell(frame: Frame) -> bool
     frame.height as usize <= frame.cursor.y.0 as usize + 1
 }
 
-// Of the characters from `at` up to the answer only the last counts. On a guarded cell all are lost; at the screen's last cell each takes the
-// place of the one before.
+// Of the characters from `at` up to the answer only the last counts. On a guarded cell all are lost; at the screen's last cell each takes
+// the place of the one before.
 pub(crate) fn last_counts(frame: Frame, attrs: &[u8], at: usize, end: usize) -> usize
     requires { ⌜ at < end ⌝ }
     ensures { λ r. ⌜ LastCounts (seen frame (attrs .entry)) at end r ⌝ }

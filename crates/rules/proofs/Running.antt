@@ -1,13 +1,13 @@
 -- Host bytes one after the other: a run of two inputs, calls that take all they are offered, and a loop over the input.
 use mathlib.Core.Path.{_≡_, refl, ap, _∙_}
-use mathlib.Core.List.{List, [], _∷_, _++_, append-assoc, append-nil}
+use mathlib.Core.List.{List, [], _∷_, _++_, append-assoc}
 use Prim.Native.Nat.{ℕ, suc, _+_, _-_, _≤_, _<_}
 use native.Mathlib.Numerals.{add-one}
 use native.Mathlib.Omega.{arith}
 use borrow.Author.Tests.{leb-true, le-leb, lt-leb}
 use lib.Dec.{leb}
 use lib.ListN.{length, length-append, getD, take, drop, drop-of-length-le}
-use lib.Seq.{take-suc, drop-cons, take-length, take-append-seam}
+use lib.Seq.{drop-cons, take-length, take-append-seam}
 use Rattle.screen.proofs.WordLaws.{either}
 use Rattle.rules.specs.declared.Refusal.the-variants.{Taken}
 use Rattle.rules.specs.Session.{State, replyRoom}
@@ -126,26 +126,10 @@ module _ {s : State} {xs ys a b : List ℕ} (one : TakesAll s a xs) (two : Takes
 
 -- ---- a loop over the input
 
--- what the bytes do that are taken
-abbrev pub ranOf : State → ℕ → List ℕ → Ran
-ranOf s free bs = running s (take (takenOf s free bs) bs)
-
--- from i on, with room for a reply: the byte at i, and those from i + 1 on
+-- from i on, with room for a reply: the byte at i is taken, and those from i + 1 on as many as then
 module _ (s : State) (free : ℕ) (input : List ℕ) (i : ℕ) (h : i < length input) (r : replyRoom (s .session .frame) ≤ free) where
   pub taken-step : takenOf s free (drop i input) ≡ suc (takenAfter s free (getD input i 0) (drop (i + 1) input))
   taken-step = rw (add-one, drop-cons input i 0) (one-taken s free _ _ r)
-
-  pub ran-step : let one = hostByte s (getD input i 0) in
-      ranOf s free (drop i input) ≡ followed one (ranOf (one .state) (free - length (one .replies)) (drop (i + 1) input))
-  unfolding running
-  ran-step = rw (taken-step, add-one, drop-cons input i 0)
-
--- one byte more
-pub running-next : (s : State) (input : List ℕ) (i : ℕ) → i < length input →
-    let r = running s (take i input) in
-    running s (take (i + 1) input) ≡ followed r (hostByte (r .state) (getD input i 0))
-unfolding running
-running-next s input i h = rw (add-one, take-suc input i 0, running-append) (simp append-nil)
 
 -- with no input left nothing more is taken
 pub taken-end : (s : State) (free : ℕ) (input : List ℕ) (i : ℕ) → length input ≤ i → takenOf s free (drop i input) ≡ 0
@@ -157,9 +141,3 @@ pub taken-full : (s : State) (free : ℕ) (bs : List ℕ) → free < replyRoom (
 unfolding takenOf
 taken-full s free [] h = refl
 taken-full s free (b ∷ bs) h = rw (lt-leb _ _ h)
-
--- and what takes nothing does nothing
-pub ran-none : (s : State) (free : ℕ) (bs : List ℕ) → takenOf s free bs ≡ 0
-    → ranOf s free bs ≡ record { state = s; replies = []; executed = [] }
-unfolding running
-ran-none s free bs e = rw e

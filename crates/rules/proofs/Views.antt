@@ -8,7 +8,7 @@ use borrow.Author.Tests.{ltb-true}
 use lib.Dec.{ltb}
 use lib.ListN.{length}
 use Rattle.screen.specs.declared.cell.Place.{Place}
-use Rattle.screen.specs.Cells.{placeOf, lineStart}
+use Rattle.screen.specs.Cells.{placeOf}
 use Rattle.screen.specs.Fields.{fieldStart}
 use Rattle.screen.proofs.WordLaws.{either, first-below, last-below}
 use Rattle.screen.proofs.CellLaws.{cell-lt, place-on-screen}
@@ -73,11 +73,7 @@ module _ {m n : ℕ} {v : View} (k : SoundView m n v) where
   pub some : Within v 0
   some = omega (arith, cursor-lt)
 
-  -- the first cell of the cursor's line
-  pub line-lt : Within v (lineStart (v .frame .width) (v .frame .cursor .y))
-  line-lt = omega (arith, cursor-lt)
-
-  -- and of its field
+  -- the first cell of the cursor's field
   pub field-lt : Within v (fieldStart (v .attrs) (cursorCell v))
   field-lt = omega (arith, cursor-lt, start-le (v .attrs) (cursorCell v))
 

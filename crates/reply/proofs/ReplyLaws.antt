@@ -13,7 +13,7 @@ use Rattle.telnet.specs.Reader.{iac, se}
 use Rattle.telnet.specs.Writer.{doubled, subnegotiation, negotiation}
 use Rattle.screen.specs.Words.{if_then_else_}
 use Rattle.screen.specs.Fields.{opensAt, fieldEnd}
-use Rattle.screen.specs.Edits.{lies}
+use Rattle.edit.specs.Edits.{lies}
 use Rattle.screen.proofs.WordLaws.{true-or-false}
 use Rattle.screen.proofs.FieldLaws.{end-gt, end-le}
 use Rattle.rules.specs.Effect.{Part, spelled, spelledAll}

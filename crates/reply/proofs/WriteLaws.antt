@@ -12,10 +12,10 @@ use lib.ListN.{length, drop, getD, drop-of-length-le}
 use lib.Seq.{sets, sets-eq, length-sets, take-all, drop-cons}
 use Rattle.screen.specs.Words.{if_then_else_}
 use Rattle.screen.specs.Fields.{opensAt, fieldEnd}
-use Rattle.screen.specs.Edits.{lies, canCopy, textOf, Copied}
+use Rattle.edit.specs.Edits.{lies, canCopy, textOf, Copied}
 use Rattle.screen.proofs.WordLaws.{either, true-or-false}
-use Rattle.screen.proofs.EditLaws.{text-length}
-use Rattle.screen.proofs.EditLaws.{copied-whole as copied-there}
+use Rattle.edit.proofs.EditLaws.{text-length}
+use Rattle.edit.proofs.EditLaws.{copied-whole as copied-there}
 use Rattle.reply.specs.Written.{Buffer, buffer, wroteOne, wroteAll, Wrote}
 use Rattle.reply.specs.Pieces.{doubledPieces, textPiece, separatorPieces, fieldPieces}
 

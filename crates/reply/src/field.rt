@@ -8,9 +8,9 @@ ghost use Rattle.reply.specs.Pieces.{textPiece, separatorPieces, fieldPi
 use crate::message::put_message;
 use command::number::DET;
 use command::number::FIELD_SEPARATOR;
+use edit::text::copy_text;
 use screen::field::field_end;
 use screen::start::opens_at;
-use screen::text::copy_text;
 
 // A separator before a field, not before the first.
 fn put_separator(reply: &mut [u8], at: usize, first: bool) -> usize

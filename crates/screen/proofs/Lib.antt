@@ -1,6 +1,4 @@
 pub mod Kit
 pub mod WordLaws
-pub mod ListLaws
 pub mod CellLaws
 pub mod FieldLaws
-pub mod EditLaws

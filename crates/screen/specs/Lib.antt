@@ -3,5 +3,4 @@ pub mod Cells
 pub mod Attributes
 pub mod Fields
 pub mod Scans
-pub mod Edits
 pub mod Classes

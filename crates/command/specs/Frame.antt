@@ -1,4 +1,4 @@
--- What a decision is made from.
+-- The lent buffers, and what a decision is made from.
 use mathlib.Core.Bool.{Bool, _&&_}
 use mathlib.Core.List.{List}
 use Prim.Native.Nat.{ℕ}
@@ -7,7 +7,11 @@ use lib.ListN.{length}
 use denote.Ref.{RefT, now}
 use Rattle.screen.specs.Cells.{onScreen}
 use Rattle.rules.specs.declared.Frame.{Frame}
-use Rattle.rules.specs.Session.{View, cells, view}
+use Rattle.rules.specs.Session.{Screen, View, cells, screen, view}
+
+-- the lent screen buffers, as a call finds them or leaves them
+abbrev pub lent : RefT (List ℕ) → RefT (List ℕ) → Screen
+lent chars attrs = screen (now chars) (now attrs)
 
 -- a frame with the attribute bytes that are lent
 abbrev pub seen : Frame → RefT (List ℕ) → View

@@ -4,13 +4,11 @@ use mathlib.Core.Bool.{Bool, true, false}
 use mathlib.Core.List.{List, []}
 use Prim.Native.Nat.{ℕ, zero, suc, _+_, _≤_, _<_}
 use native.Mathlib.Omega.{arith}
-use lib.ListN.{length, replicate, length-replicate, getD-replicate}
+use lib.ListN.{length}
 use Rattle.edit.specs.declared.range.Shift.{Shift}
 use Rattle.screen.specs.Cells.{lineEnd}
 use Rattle.screen.specs.Fields.{fieldEnd}
-use Rattle.edit.specs.Edits.{formatted, formattedCell}
-use Rattle.screen.proofs.WordLaws.{either, tabulated}
-use Rattle.edit.proofs.ListLaws.{in-range}
+use Rattle.screen.proofs.WordLaws.{either}
 use Rattle.screen.proofs.CellLaws.{line-within}
 use Rattle.screen.proofs.FieldLaws.{end-gt}
 use Rattle.rules.specs.declared.Command.{Command}
@@ -81,13 +79,6 @@ module _ {v : View} (fits : Fits v) where
   previous-open-lt = last-lt fits _ _ _ (cursor-lt (fits .on))
 
 -- ---- decisions
-
--- 29: every attribute byte written 0
-pub all-zeros : (attrs : List ℕ) → formatted 0 (length attrs) 0 attrs ≡ replicate (length attrs) 0
-unfolding formatted
-all-zeros attrs =
-    sym (tabulated (formattedCell 0 (length attrs) 0 attrs) (replicate (length attrs) 0) (length attrs) 0 (length-replicate _ 0)
-    (λ k h. getD-replicate _ k 0 0 h ∙ rw (in-range 0 (length attrs) k (omega arith) h)))
 
 -- 15 and 16: what a shift does on a guarded cell, and on another
 module _ {v : View} {guarded : Bool} (e : guarded ≡ cursorGuarded v) (s : Shift) where

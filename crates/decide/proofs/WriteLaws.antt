@@ -6,7 +6,7 @@ use mathlib.Core.List.{[], _∷_}
 use Prim.Native.Nat.{ℕ}
 use native.Mathlib.Omega.{arith}
 use borrow.Author.Tests.{lt-ltb, eq-eqb}
-use types.Run.{OneOf, miss}
+use types.Run.{OneOf}
 use denote.Enum.Declared.{tagOf}
 use Rattle.screen.specs.Words.{if_then_else_}
 use Rattle.screen.specs.declared.cell.Place.{Place}
@@ -14,8 +14,7 @@ use Rattle.screen.specs.Scans.{nextOpenPlace}
 use Rattle.screen.specs.Classes.{takes}
 use Rattle.screen.proofs.WordLaws.{true-or-false}
 use Rattle.rules.specs.declared.Refusal.{Refusal}
-use Rattle.rules.specs.declared.Refusal.the-variants.{Taken, Size, BufferLength, BadCharacter, BadSession, ReplyRoom, Guarded, WrongClass, DetOff, NoMeaning}
-use Rattle.rules.proofs.Refusal as refusal
+use Rattle.rules.specs.declared.Refusal.the-variants.{Taken}
 use Rattle.rules.specs.declared.Destination.the-variants.{NextOpen}
 use Rattle.rules.specs.declared.Key.{Key}
 use Rattle.rules.specs.declared.Key.the-variants.{Typed}
@@ -99,19 +98,6 @@ unfolding controlOf
 control-is v b e = rw e
 
 -- ---- a key that is refused, or not
-
--- what the other arm of a match on Taken knows
-pub not-taken : (r : Refusal) → OneOf (1 ∷ 2 ∷ 3 ∷ 4 ∷ 5 ∷ 6 ∷ 7 ∷ 8 ∷ 9 ∷ []) (tagOf refusal.the-type r) → isTaken r ≡ false
-not-taken Taken h = absurd (miss (1 ∷ 2 ∷ 3 ∷ 4 ∷ 5 ∷ 6 ∷ 7 ∷ 8 ∷ 9 ∷ []) 0 tt h)
-not-taken Size h = refl
-not-taken BufferLength h = refl
-not-taken BadCharacter h = refl
-not-taken BadSession h = refl
-not-taken ReplyRoom h = refl
-not-taken Guarded h = refl
-not-taken WrongClass h = refl
-not-taken DetOff h = refl
-not-taken NoMeaning h = refl
 
 module _ {v : View} (k : Key) {why : Refusal} (e : why ≡ verdict (keyTests v k)) {d : Decision} where
   pub pressed-not : isTaken why ≡ false → d ≡ decision (v .frame) Nothing Silent Keep → Decides v d (λ v. pressedIfTaken v k)

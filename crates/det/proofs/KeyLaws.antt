@@ -28,7 +28,7 @@ use Rattle.reply.proofs.ReplyLaws.{said}
 use Rattle.text.specs.Text.{Changes}
 use Rattle.det.specs.inner.Take.{Accepts, keyTaken}
 use Rattle.det.proofs.ReplyLaws.{emitted-whole}
-use Rattle.det.proofs.RefuseLaws.{passed-on, failed-first}
+use Rattle.admit.proofs.RefuseLaws.{passed-on, failed-first}
 use Rattle.decide.proofs.DecideLaws.{fits-rule}
 use Rattle.decide.proofs.WriteLaws.{pressed-was}
 use Rattle.det.proofs.TakeLaws.{accepts-fits, sayable}

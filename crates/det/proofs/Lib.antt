@@ -2,8 +2,6 @@ pub mod ReplyLaws
 pub mod ApplyLaws
 pub mod QuietLaws
 pub mod LoopLaws
-pub mod RefuseLaws
-pub mod SettleLaws
 pub mod TakeLaws
 pub mod HostLaws
 pub mod KeyLaws

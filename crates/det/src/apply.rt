@@ -1,13 +1,12 @@
 // A decision is applied: the reply is written from the characters as they are, then the characters change, then the attribute bytes.
 ghost use mathlib.Core.Path.{_≡_};
 ghost use Rattle.rules.specs.Effect.{changedAll};
-ghost use Rattle.command.specs.Frame.{seen};
+ghost use Rattle.command.specs.Frame.{lent, seen};
 ghost use Rattle.decide.specs.Decision.{edited, attrsOf, meant};
 ghost use Rattle.decide.specs.inner.Decision.{changesOf};
 ghost use Rattle.reply.specs.Pieces.{sayPieces};
 ghost use Rattle.reply.specs.Written.{Wrote};
 ghost use Rattle.reply.specs.inner.Reply.{Sayable};
-ghost use Rattle.text.specs.Lent.{lent};
 ghost use Rattle.text.specs.Text.{Changes};
 ghost use Rattle.det.specs.inner.Apply.{Applies};
 use decide::decision::Decision;

@@ -1,66 +1,22 @@
-// The three operations: open, host bytes, one key. They ask nothing of their caller.
+// Host bytes, and one key. They ask nothing of their caller.
 ghost use mathlib.Core.Path.{_≡_};
-ghost use mathlib.Core.List.{[]};
-ghost use Rattle.rules.specs.Session.{session, fresh, state};
-ghost use Rattle.rules.specs.Operation.{outcome, opened, hostBytes, keyRefusal, oneKey};
-ghost use Rattle.text.specs.Lent.{lent};
-ghost use Rattle.det.specs.inner.Take.{Accepts, refusedAnswer, hostTaken, keyTaken};
+ghost use Rattle.rules.specs.Session.{session, state};
+ghost use Rattle.rules.specs.Operation.{outcome, hostBytes, keyRefusal, oneKey};
+ghost use Rattle.command.specs.Frame.{lent};
+ghost use Rattle.det.specs.inner.Take.{Accepts, hostTaken, keyTaken};
 use crate::apply::change_chars;
-use crate::refuse::refuse;
-use crate::refuse::refuse_sizes;
-use crate::refuse::reply_room;
 use crate::take::take_turn;
-use command::held::none;
+use admit::open::refused;
+use admit::refuse::refuse;
+use admit::refuse::reply_room;
 use decide::keys::key_of;
 use decide::keys::press;
 use decide::keys::refuse_pressed;
-use edit::range::erase;
-use edit::range::format;
 use reply::write_reply;
 use rules::Answer;
 use rules::Frame;
-use rules::Reader;
 use rules::Refusal;
 use rules::Session;
-use screen::cell::Column;
-use screen::cell::Line;
-use screen::cell::Place;
-use telnet::Phase;
-
-// Cursor (0,0), DET off, protection in effect, nothing half read.
-fn fresh_session(width: u8, height: u8) -> Session
-    ensures { λ r. ⌜ r ≡ fresh width height ⌝ }
-{
-    let held = none();
-    Session {
-        frame: Frame {
-            width: width,
-            height: height,
-            cursor: Place {
-                x: Column(0),
-                y: Line(0),
-            },
-            det: false,
-            suppressed: false,
-        },
-        reader: Reader {
-            phase: Phase::Rest,
-            held: held,
-        },
-    }
-}
-
-// The answer of a call that is refused: its number, the session as it came, counts of 0.
-fn refused(session: Session, refusal: Refusal) -> Answer
-    ensures { λ r. ⌜ r ≡ refusedAnswer session refusal ⌝ }
-{
-    Answer {
-        session: session,
-        refusal: refusal,
-        taken: 0,
-        written: 0,
-    }
-}
 
 // Host bytes that are not refused: taken from the front while there are any and the reply buffer has room for one more reply.
 fn take_all(
@@ -140,26 +96,6 @@ fn take_key(session: Session, code: u8, chars: &mut [u8], attrs: &[u8], reply: &
         refusal: Refusal::Taken,
         taken: 1,
         written: written,
-    }
-}
-
-// A fresh session of these sizes, a space in every cell and every attribute byte 0. The sizes are wide, so that nothing a caller passes
-// is cut off.
-pub fn open(width: usize, height: usize, chars: &mut [u8], attrs: &mut [u8]) -> Answer
-    ensures { λ r. ⌜ outcome r (lent (chars .exit) (attrs .exit)) [] ≡ opened width height (lent (chars .entry) (attrs .entry)) ⌝ }
-{
-    let why = refuse_sizes(width, height, chars, attrs);
-    let Refusal::Taken = why else {
-        return refused(fresh_session(0, 0), why);
-    };
-    let session = fresh_session(width as u8, height as u8);
-    erase(true, chars, attrs, 0, chars.len());
-    format(attrs, 0, attrs.len(), 0);
-    Answer {
-        session: session,
-        refusal: Refusal::Taken,
-        taken: 0,
-        written: 0,
     }
 }
 

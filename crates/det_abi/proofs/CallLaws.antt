@@ -16,7 +16,7 @@ use Rattle.rules.specs.Session.{Screen, State, freshFrame, state}
 use Rattle.rules.specs.Refusal.{numberOf, isTaken, verdict, sizeTests}
 use Rattle.rules.specs.Key.{keyOf}
 use Rattle.rules.specs.Operation.{Outcome, outcome, unless, hostRefusal, hostBytes, keyRefusal, oneKey, opened}
-use Rattle.text.proofs.TestLaws.{failing, passing}
+use Rattle.screen.proofs.TestLaws.{failing, passing}
 use Rattle.det_abi.specs.Layout.{sessionLength, isSession, encoded, decoded}
 use Rattle.det_abi.specs.Calls.{Result, result, told, noSession, provided, openCall, hostCall, keyCall, keyByte, Gives}
 use Rattle.det_abi.proofs.LayoutLaws.{encoded-decoded}

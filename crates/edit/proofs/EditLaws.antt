@@ -7,14 +7,14 @@ use native.Mathlib.Omega.{arith}
 use borrow.Author.Tests.{ltb-true, ltb-false, leb-true, leb-false, lt-ltb, le-ltb, le-leb, lt-leb}
 use borrow.Rule.Slice.PartMut.{putMid, post-is}
 use lib.Dec.{leb, ltb}
-use lib.ListN.{length, getD, take, drop, length-drop, List·getD-eq-default}
+use lib.ListN.{length, getD, take, drop, replicate, length-drop, length-replicate, getD-replicate, List·getD-eq-default}
 use lib.Seq.{paste, length-take-le, getD-take, getD-drop}
 use Rattle.screen.specs.Words.{if_then_else_}
 use Rattle.edit.specs.declared.range.Shift.{Shift}
 use Rattle.edit.specs.declared.range.Shift.the-variants.{Insertion, Deletion}
 use Rattle.edit.specs.Edits.{deleted, deletedCell, inserted, insertedCell, shifted, lies, onPart, erased, erasedCell, formatted, formattedCell, textOf, canCopy, Copied}
-use Rattle.screen.proofs.WordLaws.{either, true-or-false, and-left, and-right, tabulate-length, getD-tabulate}
-use Rattle.edit.proofs.ListLaws.{Replaces, replaced-length, replaced-before, replaced-inside, replaced-after}
+use Rattle.screen.proofs.WordLaws.{either, true-or-false, and-left, and-right, tabulate-length, getD-tabulate, tabulated}
+use Rattle.edit.proofs.ListLaws.{in-range, Replaces, replaced-length, replaced-before, replaced-inside, replaced-after}
 
 -- ---- each edit keeps the length, and its cells are what the definition says, whatever is read beyond the end
 
@@ -195,3 +195,19 @@ module _ {chars reply : List ℕ} {from end at : ℕ} where
   pub copied-whole : {reply′ : List ℕ} {at′ : ℕ} → Copied chars reply from end at reply′ at′ → canCopy chars reply from end at ≡ true
       → (reply′ ≡ paste reply at (drop from chars) (end - from)) × (at′ ≡ at + (end - from))
   copied-whole c e = (c .bytes ∙ rw e, c .next ∙ rw e)
+
+-- ---- the whole screen
+
+-- every cell erased is spaces
+pub all-spaces : (attrs chars : List ℕ) → erased true chars attrs 0 (length chars) ≡ replicate (length chars) 32
+unfolding erased
+all-spaces attrs chars =
+    sym (tabulated (erasedCell true chars attrs 0 (length chars)) (replicate (length chars) 32) (length chars) 0 (length-replicate _ 32)
+    (λ k h. getD-replicate _ k 32 0 h ∙ rw (in-range 0 (length chars) k (omega arith) h)))
+
+-- 29: every attribute byte written 0
+pub all-zeros : (attrs : List ℕ) → formatted 0 (length attrs) 0 attrs ≡ replicate (length attrs) 0
+unfolding formatted
+all-zeros attrs =
+    sym (tabulated (formattedCell 0 (length attrs) 0 attrs) (replicate (length attrs) 0) (length attrs) 0 (length-replicate _ 0)
+    (λ k h. getD-replicate _ k 0 0 h ∙ rw (in-range 0 (length attrs) k (omega arith) h)))

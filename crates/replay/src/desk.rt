@@ -3,6 +3,8 @@ use crate::number::least;
 use crate::order::Order;
 use command::frame::moved;
 use command::frame::switched;
+use det::operation::host_bytes;
+use det::operation::key;
 use rules::Answer;
 use rules::Frame;
 use rules::Held;
@@ -58,7 +60,7 @@ fn open(
     fill(attrs, a, ATTR);
     let n = least(c, chars.len());
     let k = least(a, attrs.len());
-    let answer = det::operation::open(width, height, &mut chars[0..n], &mut attrs[0..k]);
+    let answer = admit::open::open(width, height, &mut chars[0..n], &mut attrs[0..k]);
     Desk {
         answer: answer,
         chars: c,
@@ -72,9 +74,30 @@ pub(crate) fn fresh(chars: &mut [u8], attrs: &mut [u8]) -> Desk {
     open(0, 0, chars, 0, attrs, 0)
 }
 
-// Each of the next cuts one lent buffer to its length, and hands on: a function that cuts four at once takes ten times as long to prove.
-fn host_reply(
+// A call with lent buffers.
+enum Call {
+    Host,
+    Key(u8),
+}
+
+fn made(
     session: Session,
+    call: Call,
+    input: &[u8],
+    chars: &mut [u8],
+    attrs: &mut [u8],
+    reply: &mut [u8],
+) -> Answer {
+    match call {
+        Call::Host => host_bytes(session, input, chars, attrs, reply),
+        Call::Key(code) => key(session, code, chars, attrs, reply),
+    }
+}
+
+// Each of the next cuts one lent buffer to its length, and hands on: a function that cuts four at once takes ten times as long to prove.
+fn with_reply(
+    session: Session,
+    call: Call,
     input: &[u8],
     chars: &mut [u8],
     attrs: &mut [u8],
@@ -82,45 +105,47 @@ fn host_reply(
     room: usize,
 ) -> Answer {
     let n = least(room, reply.len());
-    det::operation::host_bytes(session, input, chars, attrs, &mut reply[0..n])
+    made(session, call, input, chars, attrs, &mut reply[0..n])
 }
 
-fn host_attrs(
-    session: Session,
-    input: &[u8],
-    chars: &mut [u8],
-    attrs: &mut [u8],
-    length: usize,
-    reply: &mut [u8],
-    room: usize,
-) -> Answer {
-    let n = least(length, attrs.len());
-    host_reply(session, input, chars, &mut attrs[0..n], reply, room)
-}
-
-fn host_chars(
+fn with_attrs(
     desk: Desk,
+    call: Call,
     input: &[u8],
     chars: &mut [u8],
     attrs: &mut [u8],
     reply: &mut [u8],
     room: usize,
 ) -> Answer {
-    let last = desk.answer;
-    let n = least(desk.chars, chars.len());
-    host_attrs(
-        last.session,
+    let n = least(desk.attrs, attrs.len());
+    with_reply(
+        session_of(desk),
+        call,
         input,
-        &mut chars[0..n],
-        attrs,
-        desk.attrs,
+        chars,
+        &mut attrs[0..n],
         reply,
         room,
     )
 }
 
-fn host(
+fn with_chars(
     desk: Desk,
+    call: Call,
+    input: &[u8],
+    chars: &mut [u8],
+    attrs: &mut [u8],
+    reply: &mut [u8],
+    room: usize,
+) -> Answer {
+    let n = least(desk.chars, chars.len());
+    with_attrs(desk, call, input, &mut chars[0..n], attrs, reply, room)
+}
+
+// The call with a reply buffer of so many bytes, and `count` bytes of input.
+fn called(
+    desk: Desk,
+    call: Call,
     input: &[u8],
     count: usize,
     chars: &mut [u8],
@@ -130,28 +155,7 @@ fn host(
 ) -> Desk {
     fill(reply, room, REPLY);
     let n = least(count, input.len());
-    let answer = host_chars(desk, &input[0..n], chars, attrs, reply, room);
-    Desk {
-        answer: answer,
-        chars: desk.chars,
-        attrs: desk.attrs,
-        room: room,
-    }
-}
-
-fn key(desk: Desk, key: u8, chars: &mut [u8], attrs: &[u8], reply: &mut [u8], room: usize) -> Desk {
-    fill(reply, room, REPLY);
-    let last = desk.answer;
-    let c = least(desk.chars, chars.len());
-    let a = least(desk.attrs, attrs.len());
-    let r = least(room, reply.len());
-    let answer = det::operation::key(
-        last.session,
-        key,
-        &mut chars[0..c],
-        &attrs[0..a],
-        &mut reply[0..r],
-    );
+    let answer = with_chars(desk, call, &input[0..n], chars, attrs, reply, room);
     Desk {
         answer: answer,
         chars: desk.chars,
@@ -273,8 +277,26 @@ pub(crate) fn obey(
         Order::Held(count) => set_held(desk, count),
         Order::Det(on) => set_det(desk, on),
         Order::Suppress(on) => set_suppressed(desk, on),
-        Order::Host { count, room } => host(desk, bytes, count, chars, attrs, reply, room),
-        Order::Key { key: code, room } => key(desk, code, chars, attrs, reply, room),
+        Order::Host { count, room } => called(
+            desk,
+            Call::Host,
+            bytes,
+            count,
+            chars,
+            attrs,
+            reply,
+            room,
+        ),
+        Order::Key { key: code, room } => called(
+            desk,
+            Call::Key(code),
+            bytes,
+            0,
+            chars,
+            attrs,
+            reply,
+            room,
+        ),
         Order::State => desk,
         Order::End => desk,
         Order::Bad => desk,

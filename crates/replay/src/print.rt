@@ -4,7 +4,7 @@ use crate::number::least;
 use crate::order::Order;
 use crate::sink;
 use crate::sink::Sink;
-use det::number::number_of;
+use admit::number::number_of;
 use rules::Answer;
 use rules::Session;
 use telnet::Phase;

@@ -2,3 +2,4 @@ pub mod Kit
 pub mod WordLaws
 pub mod CellLaws
 pub mod FieldLaws
+pub mod TestLaws

@@ -194,7 +194,7 @@ fn main() {
     let mut chars = [0u8; 16];
     let mut attrs = [0u8; 16];
     let mut reply = io::buffer();
-    let opened = det::operation::open(WIDTH, HEIGHT, &mut chars, &mut attrs);
+    let opened = admit::open::open(WIDTH, HEIGHT, &mut chars, &mut attrs);
     let session = opened.session;
     let run = Run {
         session: session,

@@ -1,4 +1,3 @@
-pub mod TestLaws
 pub mod WriteLaws
 pub mod TextLaws
 pub mod PlainLaws

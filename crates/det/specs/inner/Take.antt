@@ -5,9 +5,6 @@ use Prim.Native.Nat.{ℕ, _+_, _-_, _≤_, _<_}
 use lib.ListN.{length, drop}
 use Rattle.telnet.specs.Stream.{part}
 use Rattle.rules.specs.declared.Held.{Held}
-use Rattle.rules.specs.declared.Answer.{Answer}
-use Rattle.rules.specs.declared.Session.{Session}
-use Rattle.rules.specs.declared.Refusal.{Refusal}
 use Rattle.rules.specs.declared.Refusal.the-variants.{Taken}
 use Rattle.rules.specs.Session.{Screen, State, session, state}
 use Rattle.rules.specs.Telnet.{holding}
@@ -47,10 +44,6 @@ pub record QuietTurn (s : State) (input : List ℕ) (from at : ℕ) (t : Turn) (
   pub same : t .written ≡ at
 
 -- ---- what a call comes to
-
--- the answer of a call that is refused
-abbrev pub refusedAnswer : Session → Refusal → Answer
-refusedAnswer s r = record { session = s; refusal = r; taken = 0; written = 0 }
 
 -- host bytes, and a key, that are not refused
 abbrev pub hostTaken : State → List ℕ → List ℕ → Outcome

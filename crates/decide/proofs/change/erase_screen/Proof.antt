@@ -1,6 +1,6 @@
 -- `erase_screen` meets its contract.
 use Rattle.rules.specs.Subcommand.{erasure}
-use Rattle.decide.proofs.ObeyLaws.{all-zeros}
+use Rattle.edit.proofs.EditLaws.{all-zeros}
 use borrow.Author.Needs.{needs}
 use Rattle.decide.proofs.change.erase_screen.Statement.{statement}
 use Rattle.decide.proofs.change.erase_screen.Tie as tie

@@ -3,7 +3,8 @@ use mathlib.Core.Path.{sym, _∙_}
 use borrow.Author.Needs.{needs}
 use borrow.Author.Tests.{not-true, not-false}
 use Rattle.decide.proofs.DecideLaws.{fits-found, where-fits, where-not}
-use Rattle.decide.proofs.WriteLaws.{not-taken, pressed-not, pressed-taken}
+use Rattle.command.proofs.RefusalLaws.{not-taken}
+use Rattle.decide.proofs.WriteLaws.{pressed-not, pressed-taken}
 use Rattle.decide.proofs.keys.press.Statement.{statement}
 use Rattle.decide.proofs.keys.press.Tie as tie
 

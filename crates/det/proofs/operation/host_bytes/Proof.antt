@@ -1,8 +1,8 @@
 -- `host_bytes` meets its contract: refused, or taken.
 use borrow.Author.Needs.{needs}
 use Rattle.rules.specs.Operation.{hostBytes}
-use Rattle.decide.proofs.WriteLaws.{not-taken}
-use Rattle.det.proofs.SettleLaws.{settled-refused, settled-done}
+use Rattle.command.proofs.RefusalLaws.{not-taken}
+use Rattle.admit.proofs.SettleLaws.{settled-refused, settled-done}
 use Rattle.det.proofs.TakeLaws.{accepts-start}
 use Rattle.det.proofs.operation.host_bytes.Statement.{statement}
 use Rattle.det.proofs.operation.host_bytes.Tie as tie

@@ -2,8 +2,8 @@
 use mathlib.Core.Path.{sym, _∙_}
 use borrow.Author.Needs.{needs}
 use Rattle.rules.specs.Operation.{oneKey}
-use Rattle.decide.proofs.WriteLaws.{not-taken}
-use Rattle.det.proofs.SettleLaws.{settled-refused, settled-done}
+use Rattle.command.proofs.RefusalLaws.{not-taken}
+use Rattle.admit.proofs.SettleLaws.{settled-refused, settled-done}
 use Rattle.det.proofs.operation.key.Statement.{statement}
 use Rattle.det.proofs.operation.key.Tie as tie
 

@@ -1,6 +1,6 @@
 -- `refuse_key` meets its contract: the tests of every call, then those of the key.
 use borrow.Author.Needs.{needs}
-use Rattle.decide.proofs.WriteLaws.{not-taken}
+use Rattle.command.proofs.RefusalLaws.{not-taken}
 use Rattle.det.proofs.KeyLaws.{refused-first, refused-last}
 use Rattle.det.proofs.operation.refuse_key.Statement.{statement}
 use Rattle.det.proofs.operation.refuse_key.Tie as tie

@@ -1,6 +1,6 @@
 -- `det_host` meets its contract: no session, or what `host_bytes` answers.
 use borrow.Author.Needs.{needs}
-use Rattle.text.proofs.TestLaws.{passing}
+use Rattle.screen.proofs.TestLaws.{passing}
 use Rattle.det_abi.proofs.LayoutLaws.{session-length}
 use Rattle.det_abi.proofs.CallLaws.{host-none, host-done}
 use Rattle.det_abi.proofs.calls.det_host.Statement.{statement}

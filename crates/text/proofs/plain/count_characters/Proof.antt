@@ -4,7 +4,7 @@ use borrow.Author.Needs.{needs}
 use lib.ListN.{length}
 use Rattle.rules.specs.Session.{printable}
 use Rattle.text.specs.inner.Plain.{Each}
-use Rattle.text.proofs.TestLaws.{passing}
+use Rattle.screen.proofs.TestLaws.{passing}
 use Rattle.text.proofs.PlainLaws.{each-next}
 use Rattle.text.proofs.plain.count_characters.Statement.{statement}
 use Rattle.text.proofs.plain.count_characters.Tie as tie

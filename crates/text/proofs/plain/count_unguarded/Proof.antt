@@ -2,7 +2,7 @@
 use Prim.Native.Nat.{_-_, _≤_}
 use borrow.Author.Needs.{needs}
 use Rattle.text.specs.inner.Plain.{unguarded, Each}
-use Rattle.text.proofs.TestLaws.{passing}
+use Rattle.screen.proofs.TestLaws.{passing}
 use Rattle.text.proofs.PlainLaws.{each-next}
 use Rattle.text.proofs.plain.count_unguarded.Statement.{statement}
 use Rattle.text.proofs.plain.count_unguarded.Tie as tie

@@ -4,7 +4,7 @@ use mathlib.Core.Bool.{false}
 use native.Mathlib.Omega.{arith}
 use borrow.Author.Needs.{needs}
 use Rattle.screen.proofs.WordLaws.{not-both}
-use Rattle.text.proofs.TestLaws.{passing}
+use Rattle.screen.proofs.TestLaws.{passing}
 use Rattle.text.proofs.PlainLaws.{each-two}
 use Rattle.text.proofs.plain.two_characters.Statement.{statement}
 use Rattle.text.proofs.plain.two_characters.Tie as tie

@@ -2,10 +2,10 @@
 use mathlib.Core.Path.{refl, sym, _∙_}
 use borrow.Author.Needs.{needs}
 use Rattle.rules.specs.Refusal.{sizeTests}
-use Rattle.det.proofs.RefuseLaws.{passed-on, failed-first}
-use Rattle.decide.proofs.WriteLaws.{not-taken}
-use Rattle.det.proofs.refuse.refuse.Statement.{statement}
-use Rattle.det.proofs.refuse.refuse.Tie as tie
+use Rattle.admit.proofs.RefuseLaws.{passed-on, failed-first}
+use Rattle.command.proofs.RefusalLaws.{not-taken}
+use Rattle.admit.proofs.refuse.refuse.Statement.{statement}
+use Rattle.admit.proofs.refuse.refuse.Tie as tie
 
 pub refuse-spec : {M : Type 1} → statement M
 unfolding sizeTests

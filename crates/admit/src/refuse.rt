@@ -4,7 +4,7 @@ ghost use Prim.Native.Nat.{min, max};
 ghost use Rattle.rules.specs.Session.{sizesOk, replyRoom, freshFrame, allPrintable, sessionOk, state};
 ghost use Rattle.rules.specs.Refusal.{verdict, sizeTests, stateTests};
 ghost use Rattle.rules.specs.Operation.{hostRefusal};
-ghost use Rattle.text.specs.Lent.{lent};
+ghost use Rattle.command.specs.Frame.{lent};
 use rules::Frame;
 use rules::Refusal;
 use rules::Session;
@@ -64,14 +64,14 @@ fn session_ok(session: Session) -> bool
 }
 
 // The worst single reply: 7C + 2.
-pub(crate) fn reply_room(frame: Frame) -> usize
+pub fn reply_room(frame: Frame) -> usize
     ensures { λ r. ⌜ r ≡ replyRoom frame ⌝ }
 {
     7 * (frame.height as usize * frame.width as usize) + 2
 }
 
 // Refusals 1 and 2, all that open has.
-pub(crate) fn refuse_sizes(m: usize, n: usize, chars: &[u8], attrs: &[u8]) -> Refusal
+pub fn refuse_sizes(m: usize, n: usize, chars: &[u8], attrs: &[u8]) -> Refusal
     ensures { λ r. ⌜ r ≡ verdict (sizeTests (freshFrame m n) (lent (chars .entry) (attrs .entry))) ⌝ }
 {
     let sized = sizes_ok(m, n);
@@ -106,7 +106,7 @@ fn refuse_state(session: Session, chars: &[u8], reply: &[u8]) -> Refusal
 }
 
 // Refusals 1 to 5, of host bytes and of a key.
-pub(crate) fn refuse(session: Session, chars: &[u8], attrs: &[u8], reply: &[u8]) -> Refusal
+pub fn refuse(session: Session, chars: &[u8], attrs: &[u8], reply: &[u8]) -> Refusal
     ensures { λ r. ⌜ r ≡ hostRefusal (state session (lent (chars .entry) (attrs .entry))) (now (reply .entry)) ⌝ }
 {
     let why = refuse_sizes(

@@ -1,9 +1,9 @@
 -- `session_ok` meets its contract: the cursor, then the count of held bytes.
 use borrow.Author.Needs.{needs}
 use Rattle.rules.specs.Session.{sessionOk}
-use Rattle.text.proofs.TestLaws.{failing, passing}
-use Rattle.det.proofs.refuse.session_ok.Statement.{statement}
-use Rattle.det.proofs.refuse.session_ok.Tie as tie
+use Rattle.screen.proofs.TestLaws.{failing, passing}
+use Rattle.admit.proofs.refuse.session_ok.Statement.{statement}
+use Rattle.admit.proofs.refuse.session_ok.Tie as tie
 
 pub session-ok-spec : {M : Type 1} → statement M
 unfolding sessionOk

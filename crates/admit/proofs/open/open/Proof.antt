@@ -1,10 +1,10 @@
 -- `open` meets its contract: refused, it changes nothing; else every cell is a space and every attribute byte 0.
 use native.Mathlib.Omega.{arith}
 use borrow.Author.Needs.{needs}
-use Rattle.decide.proofs.WriteLaws.{not-taken}
-use Rattle.det.proofs.SettleLaws.{open-refused, open-sizes, open-done}
-use Rattle.det.proofs.operation.open.Statement.{statement}
-use Rattle.det.proofs.operation.open.Tie as tie
+use Rattle.command.proofs.RefusalLaws.{not-taken}
+use Rattle.admit.proofs.SettleLaws.{open-refused, open-sizes, open-done}
+use Rattle.admit.proofs.open.open.Statement.{statement}
+use Rattle.admit.proofs.open.open.Tie as tie
 
 pub open-spec : {M : Type 1} → statement M
 open-spec =

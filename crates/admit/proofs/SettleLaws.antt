@@ -3,13 +3,12 @@ use mathlib.Core.Path.{_≡_, refl, sym, ap, _∙_}
 use mathlib.Core.Bool.{true, false}
 use mathlib.Core.List.{List, []}
 use Prim.Native.Nat.{ℕ, _*_, _≤_}
-use native.Mathlib.Omega.{arith}
 use borrow.Author.Tests.{eqb-true}
 use lib.Dec.{eqb}
-use lib.ListN.{length, replicate, length-replicate, getD-replicate}
-use Rattle.edit.specs.Edits.{erased, erasedCell, formatted}
-use Rattle.screen.proofs.WordLaws.{and-left, and-right, tabulated}
-use Rattle.edit.proofs.ListLaws.{in-range}
+use lib.ListN.{length}
+use Rattle.edit.specs.Edits.{erased, formatted}
+use Rattle.screen.proofs.WordLaws.{and-left, and-right}
+use Rattle.edit.proofs.EditLaws.{all-spaces, all-zeros}
 use Rattle.rules.specs.declared.Refusal.{Refusal}
 use Rattle.rules.specs.declared.Refusal.the-variants.{Taken}
 use Rattle.rules.specs.declared.Session.{Session}
@@ -18,9 +17,8 @@ use Rattle.rules.specs.Session.{Screen, State, freshFrame, fresh, screen}
 use Rattle.rules.specs.Refusal.{isTaken, verdict, sizeTests}
 use Rattle.rules.specs.Operation.{Outcome, outcome, unless, opened}
 use Rattle.rules.proofs.Refusals.{all-pass}
-use Rattle.det.specs.inner.Take.{refusedAnswer}
-use Rattle.decide.proofs.ObeyLaws.{all-zeros}
-use Rattle.det.proofs.RefuseLaws.{bounds}
+use Rattle.admit.specs.Refused.{refusedAnswer}
+use Rattle.admit.proofs.RefuseLaws.{bounds}
 
 -- ---- refused, or done
 
@@ -35,13 +33,6 @@ module _ {why r : Refusal} (s : State) (reply : List ℕ) (done : Outcome) (e : 
   settled-done t h = rw (sym e ∙ t) h
 
 -- ---- open
-
--- every cell erased is spaces
-pub all-spaces : (attrs chars : List ℕ) → erased true chars attrs 0 (length chars) ≡ replicate (length chars) 32
-unfolding erased
-all-spaces attrs chars =
-    sym (tabulated (erasedCell true chars attrs 0 (length chars)) (replicate (length chars) 32) (length chars) 0 (length-replicate _ 32)
-    (λ k h. getD-replicate _ k 32 0 h ∙ rw (in-range 0 (length chars) k (omega arith) h)))
 
 module _ (m n : ℕ) (b : Screen) {why : Refusal} (e : why ≡ verdict (sizeTests (freshFrame m n) b)) where
   pub open-refused : {s : Session} {a : Answer} → isTaken why ≡ false → s ≡ fresh 0 0 → a ≡ refusedAnswer s why

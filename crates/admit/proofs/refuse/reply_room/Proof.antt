@@ -3,8 +3,8 @@ use mathlib.Core.Path.{refl}
 use native.Mathlib.Omega.{arith}
 use borrow.Author.Needs.{needs}
 use Rattle.screen.proofs.CellLaws.{byte-product}
-use Rattle.det.proofs.refuse.reply_room.Statement.{statement}
-use Rattle.det.proofs.refuse.reply_room.Tie as tie
+use Rattle.admit.proofs.refuse.reply_room.Statement.{statement}
+use Rattle.admit.proofs.refuse.reply_room.Tie as tie
 
 pub reply-room-spec : {M : Type 1} → statement M
 reply-room-spec =

@@ -2,9 +2,9 @@
 use borrow.Author.Needs.{needs}
 use borrow.Author.Tests.{le-leb, lt-leb}
 use Rattle.rules.specs.Refusal.{verdict, stateTests}
-use Rattle.text.proofs.TestLaws.{failing, passing}
-use Rattle.det.proofs.refuse.refuse_state.Statement.{statement}
-use Rattle.det.proofs.refuse.refuse_state.Tie as tie
+use Rattle.screen.proofs.TestLaws.{failing, passing}
+use Rattle.admit.proofs.refuse.refuse_state.Statement.{statement}
+use Rattle.admit.proofs.refuse.refuse_state.Tie as tie
 
 pub refuse-state-spec : {M : Type 1} → statement M
 unfolding verdict stateTests

@@ -3,10 +3,10 @@ use borrow.Author.Needs.{needs}
 use native.Mathlib.Omega.{arith}
 use borrow.Author.Tests.{ne-eqb, eq-eqb}
 use Rattle.rules.specs.Refusal.{verdict, sizeTests}
-use Rattle.text.proofs.TestLaws.{failing, passing}
-use Rattle.det.proofs.RefuseLaws.{few}
-use Rattle.det.proofs.refuse.refuse_sizes.Statement.{statement}
-use Rattle.det.proofs.refuse.refuse_sizes.Tie as tie
+use Rattle.screen.proofs.TestLaws.{failing, passing}
+use Rattle.admit.proofs.RefuseLaws.{few}
+use Rattle.admit.proofs.refuse.refuse_sizes.Statement.{statement}
+use Rattle.admit.proofs.refuse.refuse_sizes.Tie as tie
 
 pub refuse-sizes-spec : {M : Type 1} → statement M
 unfolding verdict sizeTests

@@ -7,9 +7,9 @@ use borrow.Author.Tests.{le-leb, lt-leb}
 use lib.Dec.{leb}
 use lib.ListN.{length, drop, drop-of-length-le}
 use Rattle.rules.specs.Session.{allPrintable}
-use Rattle.det.proofs.RefuseLaws.{and-true, text-on}
-use Rattle.det.proofs.refuse.all_printable.Statement.{statement}
-use Rattle.det.proofs.refuse.all_printable.Tie as tie
+use Rattle.admit.proofs.RefuseLaws.{and-true, text-on}
+use Rattle.admit.proofs.refuse.all_printable.Statement.{statement}
+use Rattle.admit.proofs.refuse.all_printable.Tie as tie
 
 pub all-printable-spec : {M : Type 1} → statement M
 unfolding allPrintable

@@ -1,7 +1,7 @@
 -- `sizes_ok` meets its contract: one case for each bound.
 use borrow.Author.Tests.{le-leb, lt-leb}
-use Rattle.det.proofs.refuse.sizes_ok.Statement.{statement}
-use Rattle.det.proofs.refuse.sizes_ok.Tie as tie
+use Rattle.admit.proofs.refuse.sizes_ok.Statement.{statement}
+use Rattle.admit.proofs.refuse.sizes_ok.Tie as tie
 
 pub sizes-ok-spec : {M : Type 1} → statement M
 sizes-ok-spec =

@@ -1,0 +1,2 @@
+pub mod RefuseLaws
+pub mod SettleLaws

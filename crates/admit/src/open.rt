@@ -1,0 +1,75 @@
+// Opening a session, and the answer of any call that is refused.
+ghost use mathlib.Core.Path.{_≡_};
+ghost use mathlib.Core.List.{[]};
+ghost use Rattle.rules.specs.Session.{fresh};
+ghost use Rattle.rules.specs.Operation.{outcome, opened};
+ghost use Rattle.command.specs.Frame.{lent};
+ghost use Rattle.admit.specs.Refused.{refusedAnswer};
+use crate::refuse::refuse_sizes;
+use command::held::none;
+use edit::range::erase;
+use edit::range::format;
+use rules::Answer;
+use rules::Frame;
+use rules::Reader;
+use rules::Refusal;
+use rules::Session;
+use screen::cell::Column;
+use screen::cell::Line;
+use screen::cell::Place;
+use telnet::Phase;
+
+// Cursor (0,0), DET off, protection in effect, nothing half read.
+fn fresh_session(width: u8, height: u8) -> Session
+    ensures { λ r. ⌜ r ≡ fresh width height ⌝ }
+{
+    let held = none();
+    Session {
+        frame: Frame {
+            width: width,
+            height: height,
+            cursor: Place {
+                x: Column(0),
+                y: Line(0),
+            },
+            det: false,
+            suppressed: false,
+        },
+        reader: Reader {
+            phase: Phase::Rest,
+            held: held,
+        },
+    }
+}
+
+// The answer of a call that is refused: its number, the session as it came, counts of 0.
+pub fn refused(session: Session, refusal: Refusal) -> Answer
+    ensures { λ r. ⌜ r ≡ refusedAnswer session refusal ⌝ }
+{
+    Answer {
+        session: session,
+        refusal: refusal,
+        taken: 0,
+        written: 0,
+    }
+}
+
+// A fresh session of these sizes, a space in every cell and every attribute byte 0. The sizes are wide, so that nothing a caller passes
+// is cut off.
+pub fn open(width: usize, height: usize, chars: &mut [u8], attrs: &mut [u8]) -> Answer
+    ensures { λ r. ⌜ outcome r (lent (chars .exit) (attrs .exit)) [] ≡ opened width height (lent (chars .entry) (attrs .entry)) ⌝ }
+{
+    let why = refuse_sizes(width, height, chars, attrs);
+    let Refusal::Taken = why else {
+        return refused(fresh_session(0, 0), why);
+    };
+    let session = fresh_session(width as u8, height as u8);
+    erase(true, chars, attrs, 0, chars.len());
+    format(attrs, 0, attrs.len(), 0);
+    Answer {
+        session: session,
+        refusal: Refusal::Taken,
+        taken: 0,
+        written: 0,
+    }
+}

@@ -1,10 +1,12 @@
 -- Laws of the subcommands: what lies on the screen, and which decisions the rules ask for.
 use mathlib.Core.Path.{_≡_, refl, sym, ap, _∙_}
 use mathlib.Core.Bool.{Bool, true, false}
-use mathlib.Core.List.{List, []}
+use mathlib.Core.List.{List, [], _∷_}
 use Prim.Native.Nat.{ℕ, zero, suc, _+_, _≤_, _<_}
 use native.Mathlib.Omega.{arith}
 use lib.ListN.{length}
+use types.Run.{OneOf, miss}
+use denote.Enum.Declared.{tagOf}
 use Rattle.edit.specs.declared.range.Shift.{Shift}
 use Rattle.screen.specs.Cells.{lineEnd}
 use Rattle.screen.specs.Fields.{fieldEnd}
@@ -15,7 +17,8 @@ use Rattle.rules.specs.declared.Command.{Command}
 use Rattle.rules.specs.declared.Code.{Code}
 use Rattle.rules.specs.declared.Code.the-variants.{Known, Unknown}
 use Rattle.rules.specs.declared.Fault.{Fault}
-use Rattle.rules.specs.declared.Fault.the-variants.{UnknownCode}
+use Rattle.rules.specs.declared.Fault.the-variants.{NoFault, UnknownCode, OffScreen, TooManyParameters, TooFewParameters, BadValue, BadMap}
+use Rattle.rules.proofs.Fault.{the-type}
 use Rattle.rules.specs.declared.Frame.{Frame}
 use Rattle.rules.specs.declared.Held.{Held}
 use Rattle.rules.specs.Session.{View, cells, cursorCell, withAttrs}
@@ -115,6 +118,18 @@ pub judged-by : {v : View} {d : Decision} {c : Command} {n : ℕ} (held : Held) 
     → ((r : Row) → r .command ≡ c → Decides v d (λ w. judged w r held fault)) → Judges v d c n held
 judged-by {v} held e by r m p =
     recast (by r m) (ap (λ (x : Fault). shown (judged v r held x)) (e ∙ rw (m, p)))
+
+-- a fault but the first and MOVE CURSOR's is an ERROR, and nothing changes
+pub errs : {v : View} {d : Decision} (r : Row) (h : Held) (fault : Fault) → OneOf (1 ∷ 3 ∷ 4 ∷ 5 ∷ 6 ∷ []) (tagOf the-type fault)
+    → Decides v d (λ w. erring w (codeIn h) fault) → Decides v d (λ w. judged w r h fault)
+unfolding judged
+errs r h NoFault o e = absurd (miss (1 ∷ 3 ∷ 4 ∷ 5 ∷ 6 ∷ []) 0 tt o)
+errs r h UnknownCode o e = e
+errs r h OffScreen o e = absurd (miss (1 ∷ 3 ∷ 4 ∷ 5 ∷ 6 ∷ []) 2 tt o)
+errs r h TooManyParameters o e = e
+errs r h TooFewParameters o e = e
+errs r h BadValue o e = e
+errs r h BadMap o e = e
 
 -- a code is not both known and unknown
 unknown : {c : Command} {n : ℕ} → Known c n ≡ Unknown → ⊥

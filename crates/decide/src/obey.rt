@@ -215,11 +215,7 @@ fn judge(frame: Frame, attrs: &[u8], command: Command, parameters: u8, held: Hel
     match fault {
         Fault::NoFault => obey(frame, attrs, command, held),
         Fault::OffScreen => err(limited(frame, held), number, fault),
-        Fault::UnknownCode => err(frame, number, fault),
-        Fault::TooManyParameters => err(frame, number, fault),
-        Fault::TooFewParameters => err(frame, number, fault),
-        Fault::BadValue => err(frame, number, fault),
-        Fault::BadMap => err(frame, number, fault),
+        _ => err(frame, number, fault),
     }
 }
 

@@ -14,13 +14,9 @@ use screen::cell::on_screen;
 pub fn moved(frame: Frame, cursor: Place) -> Frame
     ensures { λ r. ⌜ r ≡ placed frame cursor ⌝ }
 {
-    Frame {
-        width: frame.width,
-        height: frame.height,
-        cursor: cursor,
-        det: frame.det,
-        suppressed: frame.suppressed,
-    }
+    let mut next = frame;
+    next.cursor = cursor;
+    next
 }
 
 // The frame with these modes.

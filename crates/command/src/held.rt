@@ -1,9 +1,11 @@
 // The first bytes of a subnegotiation, and what is read from them.
 ghost use mathlib.Core.Path.{_≡_};
-ghost use Prim.Native.Nat.{_<_};
+ghost use Prim.Native.Nat.{_<_, min};
+ghost use lib.ListN.{getD};
 ghost use Rattle.rules.specs.Session.{noneHeld};
 ghost use Rattle.rules.specs.Telnet.{holding, heldAfter};
 ghost use Rattle.rules.specs.Command.{codeIn, parameter, placeIn, formatCount};
+ghost use Rattle.command.specs.Held.{holdingAll};
 use rules::Held;
 use screen::cell::Column;
 use screen::cell::Line;
@@ -38,6 +40,54 @@ pub fn hold(held: Held, byte: u8) -> Held
     let count = hold_in(&mut bytes, held.count, byte);
     Held {
         bytes: bytes,
+        count: count,
+    }
+}
+
+// What is held after these bytes, one after the other.
+pub fn hold_all(held: Held, input: &[u8]) -> Held
+    ensures { λ r. ⌜ r ≡ holdingAll held (now (input .entry)) ⌝ }
+{
+    let mut bytes = held.bytes;
+    let mut count = held.count;
+    let mut at = 0;
+    while at < input.len() {
+        count = hold_in(&mut bytes, count, input[at]);
+        at += 1;
+    }
+    Held {
+        bytes: bytes,
+        count: count,
+    }
+}
+
+// The byte at i, or 0 beyond the end.
+fn byte_at(bytes: &[u8], i: usize) -> u8
+    ensures { λ r. ⌜ r ≡ getD (now (bytes .entry)) i 0 ⌝ }
+{
+    if i < bytes.len() { bytes[i] } else { 0 }
+}
+
+fn at_most_six(n: usize) -> u8
+    ensures { λ r. ⌜ r ≡ min n 6 ⌝ }
+{
+    if n < 6 { n as u8 } else { 6 }
+}
+
+// What is held of a whole subnegotiation: its first six bytes, read at once.
+pub fn held_of(bytes: &[u8]) -> Held
+    ensures { λ r. ⌜ r ≡ holdingAll noneHeld (now (bytes .entry)) ⌝ }
+{
+    let count = at_most_six(bytes.len());
+    Held {
+        bytes: [
+            byte_at(bytes, 0),
+            byte_at(bytes, 1),
+            byte_at(bytes, 2),
+            byte_at(bytes, 3),
+            byte_at(bytes, 4),
+            byte_at(bytes, 5),
+        ],
         count: count,
     }
 }

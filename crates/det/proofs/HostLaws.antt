@@ -8,17 +8,21 @@ use lib.ListN.{length, getD, take, drop, length-drop}
 use lib.Seq.{length-take-le}
 use Rattle.telnet.specs.Stream.{part}
 use Rattle.telnet.proofs.PartLaws.{part-none, part-one, part-then, part-rest}
+use Rattle.rules.specs.declared.Frame.{Frame}
+use Rattle.rules.specs.declared.Reader.{Reader}
 use Rattle.rules.specs.declared.Refusal.the-variants.{Taken}
-use Rattle.rules.specs.Session.{Screen, State, replyRoom, session, state}
-use Rattle.rules.specs.Operation.{Ran, outcome, hostByte, running, takenOf}
+use Rattle.rules.specs.Session.{Screen, State, replyRoom, session, state, view}
+use Rattle.rules.specs.Operation.{Ran, outcome, happening, hostByte, running, takenOf}
 use Rattle.rules.proofs.Sound.{Sound, sound-running, passes}
 use Rattle.rules.proofs.Room.{room-byte}
 use Rattle.rules.proofs.Running.{running-append, silent-taken, taken-step}
-use Rattle.det.specs.declared.take.Turn.{Turn}
+use Rattle.det.specs.declared.apply.Applied.{Applied}
+use Rattle.det.specs.declared.take.Told.{Told}
 use Rattle.reply.specs.inner.Reply.{Emitted}
-use Rattle.det.specs.inner.Take.{Accepts, Taking, QuietTurn, hostTaken}
+use Rattle.det.specs.inner.Apply.{Applies, Answerable}
+use Rattle.det.specs.inner.Take.{Accepts, Taking, QuietRun, Tells, hostTaken}
 use Rattle.det.proofs.ReplyLaws.{emitted-none, emitted-length, emitted-then, emitted-whole}
-use Rattle.det.proofs.TakeLaws.{accepted}
+use Rattle.det.proofs.TakeLaws.{accepted, byte-answerable, byte-state, byte-replies}
 
 -- ---- none, and some after others
 
@@ -49,7 +53,7 @@ module _ {s s₁ s₂ : State} {input : List ℕ} {a b c : ℕ} {reply reply₁ 
         count = omega (arith, t .count, rw long at (u .count), t .onward, u .onward);
       }
 
--- ---- one byte, and a stretch
+-- ---- one byte, and some that draw no reply
 
 running-one : (s : State) (b : ℕ) → running s (b ∷ []) ≡ hostByte s b
 unfolding running
@@ -76,25 +80,55 @@ module _ (s : State) (reply : List ℕ) (at : ℕ) (a : Accepts s reply at) wher
           count = rw (after, left) (omega (arith, taken-step s (length reply - at) input from h free));
         }
 
-    -- a turn that draws no reply
-    pub taking-quiet : {t : Turn} {b : Screen} → QuietTurn s input from at t b
-        → (from < t .end) × Taking s input from reply at (state (session (t .frame) (t .reader)) b) (t .end) reply (t .written)
-    taking-quiet {t} {b} r =
-        let end = t .end in
-        let onward : from ≤ end = omega (arith, r .further) in
-        let long = length-take-le (end - from) (drop from input) (omega (arith, length-drop from input, r .within)) in
-        let quiet = ap (λ (q : Ran). length (q .replies)) (r .ran) in
-        let count = silent-taken (accepted s reply at a .sound) (length reply - at) (part from end input) (drop end input) free quiet in (
-          r .further,
-          rw (r .same) (record {
-            onward = onward;
+    module _ {s′ : State} {end : ℕ} (r : QuietRun s input from s′ end) where
+      -- bytes that draw no reply
+      pub taking-run : Taking s input from reply at s′ end reply at
+      taking-run =
+          let long = length-take-le (end - from) (drop from input) (omega (arith, length-drop from input, r .onward, r .within)) in
+          let quiet = ap (λ (q : Ran). length (q .replies)) (r .ran) in
+          let count = silent-taken (accepted s reply at a .sound) (length reply - at) (part from end input) (drop end input) free quiet in
+          record {
+            onward = r .onward;
             within = r .within;
             room = omega (arith, free);
             state = ap (λ (q : Ran). q .state) (sym (r .ran));
             replies = rw (r .ran) emitted-none;
-            count = omega (arith, rw (part-rest input onward, r .ran) at count, long);
-          }),
-        )
+            count = omega (arith, rw (part-rest input (r .onward), r .ran) at count, long);
+          }
+
+      -- leave room for one as they found it
+      pub accepts-run : Accepts s′ reply at
+      accepts-run =
+          let k = accepted s reply at a in
+          let sound = rw (r .ran) at (sound-running (k .sound) (part from end input)) in
+          let z = sound .view .sizes in
+          passes sound (drop at reply) (rw (z .width, z .height) (k .room))
+
+-- ---- what is told next
+
+module _ (f : Frame) (r : Reader) (b : Screen) (reply : List ℕ) (at : ℕ) (a : Accepts (state (session f r) b) reply at)
+    {input : List ℕ} {from : ℕ} {t : Told} (k : Tells r input from t) where
+  -- the state before the byte that tells it
+  abbrev mid : State
+  mid = state (session f (record { phase = k .phase; held = t .held })) b
+
+  mid-accepts : Accepts mid reply at
+  mid-accepts = accepts-run (state (session f r) b) reply at a (k .quiet f b)
+
+  -- the reply to it can be written
+  pub told-answerable : Answerable (happening (view f (b .attrs)) (t .held) (t .event)) f b reply at
+  told-answerable = byte-answerable mid reply at mid-accepts (getD input (k .last) 0) (k .step)
+
+  -- and what is done is what the bytes do
+  pub told-taking : {done : Applied} {b′ : Screen} {reply′ : List ℕ} → Applies (happening (view f (b .attrs)) (t .held) (t .event)) b reply at done b′ reply′
+      → (from < t .next) × Taking (state (session f r) b) input from reply at (state (session (done .frame) (t .reader)) b′) (t .next) reply′ (done .written)
+  told-taking h =
+      let byte = getD input (k .last) 0 in
+      let run = k .quiet f b in
+      let far : from < t .next = omega (arith, run .onward, k .next) in
+      let after = byte-state mid reply at mid-accepts byte (k .step) h (k .held) in
+      let one = taking-byte mid reply at mid-accepts (k .lies) after (byte-replies mid reply at mid-accepts byte (k .step) h) in
+      (far, rw (k .next) (taking-then (taking-run (state (session f r) b) reply at a run) one))
 
 -- ---- a whole call
 

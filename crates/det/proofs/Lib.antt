@@ -1,7 +1,6 @@
 pub mod ReplyLaws
 pub mod ApplyLaws
 pub mod QuietLaws
-pub mod LoopLaws
 pub mod TakeLaws
 pub mod HostLaws
 pub mod KeyLaws

@@ -1,28 +1,34 @@
--- Laws of stretches of bytes without an IAC, at rest and in a subnegotiation: they draw no reply.
+-- Laws of bytes that draw no reply: stretches without an IAC, at rest and in a subnegotiation, and the opening of a whole one.
 use mathlib.Core.Path.{_≡_, refl, ap, _∙_}
 use mathlib.Core.List.{List, [], _∷_}
-use Prim.Native.Nat.{ℕ, suc, _<_}
+use Prim.Native.Nat.{ℕ, suc, _+_, _≤_, _<_}
 use native.Mathlib.Omega.{arith}
 use borrow.Author.Tests.{ne-eqb}
-use lib.ListN.{length}
+use lib.ListN.{length, getD}
 use Rattle.telnet.specs.declared.Phase.{Phase}
-use Rattle.telnet.specs.declared.Phase.the-variants.{Rest, Inside}
+use Rattle.telnet.specs.declared.Phase.the-variants.{Rest, Iac, Opening, Inside, InsideIac}
+use Rattle.telnet.specs.declared.Event.the-variants.{End}
+use Rattle.telnet.specs.declared.Step.{Step}
 use Rattle.telnet.specs.declared.stretch.Stretch.{Stretch}
-use Rattle.telnet.specs.Reader.{readOf, inside}
+use Rattle.telnet.specs.Reader.{afterIac, opening, inside, insideIac, readOf}
 use Rattle.telnet.specs.Stream.{part, stretchOf}
 use Rattle.telnet.proofs.Laws.{No255}
+use Rattle.telnet.proofs.PartLaws.{part-none}
+use Rattle.telnet.proofs.AheadLaws.{Whole}
 use Rattle.telnet.proofs.StretchLaws.{Lies, here, bytes, through, stretch-plain, stretch-lies, by-end}
 use Rattle.rules.specs.declared.Held.{Held}
 use Rattle.rules.specs.declared.Frame.{Frame}
-use Rattle.rules.specs.Session.{Screen, State, session, screen, state, view}
+use Rattle.rules.specs.declared.Reader.{Reader}
+use Rattle.rules.specs.Session.{noneHeld, Screen, State, session, screen, state, view}
 use Rattle.rules.specs.Effect.{Effect, changedAll, spelledAll}
 use Rattle.rules.specs.Telnet.{holding, heldAfter, hostData}
 use Rattle.rules.specs.Operation.{Ran, happening, hostByte, applied, running}
 use Rattle.rules.proofs.Characters.{changed-append}
 use Rattle.rules.proofs.Running.{running-append}
+use Rattle.command.specs.Held.{holdingAll}
 use Rattle.det.specs.declared.take.Turn.{Turn}
 use Rattle.text.specs.Text.{Changes, hostText}
-use Rattle.det.specs.inner.Take.{holdingAll, QuietTurn}
+use Rattle.det.specs.inner.Take.{QuietRun, QuietTurn, Tells}
 use Rattle.text.proofs.TextLaws.{data-only}
 
 -- nothing sent, nothing executed
@@ -45,7 +51,17 @@ module _ (f : Frame) (held : Held) (b : Screen) where
   unfolding hostByte happening heldAfter readOf inside changedAll spelledAll
   inside-iac o = refl
 
+  -- SB after an IAC
+  iac-sb : hostByte (standing f Iac held b) 250 ≡ still (standing f Opening held b)
+  unfolding hostByte happening heldAfter readOf afterIac changedAll spelledAll
+  iac-sb = refl
+
   module _ {byte : ℕ} (n : byte ≡ 255 → ⊥) where
+    -- any other byte after it is an option
+    opening-option : hostByte (standing f Opening held b) byte ≡ still (standing f (Inside byte) noneHeld b)
+    unfolding hostByte happening heldAfter readOf opening changedAll spelledAll
+    opening-option = rw (ne-eqb _ _ n)
+
     -- any other byte at rest is data
     rest-data : {f′ : Frame} {chars : List ℕ} → Changes (hostData (view f (b .attrs)) byte) b f′ chars
         → hostByte (standing f Rest held b) byte ≡ still (standing f′ Rest held (screen chars (b .attrs)))
@@ -107,24 +123,86 @@ module _ {input : List ℕ} {from : ℕ} (h : from < length input) (p : Phase) {
   quiet-turn : {s : State} {f : Frame} {held : Held} {b : Screen} (at : ℕ)
       → running s (part from (t .next) input) ≡ still (standing f (t .phase) held b)
       → QuietTurn s input from at (turn t f held at) b
-  quiet-turn at ran = record { further = lies .further; within = lies .within; ran = ran; same = refl }
+  quiet-turn at ran =
+      record { run = record { onward = omega (arith, lies .further); within = lies .within; ran = ran }; same = refl }
 
   -- data
-  pub text-turn : {f f′ : Frame} {held : Held} {b : Screen} {chars : List ℕ} (at : ℕ) → p ≡ Rest
+  pub text-turn : {phase : Phase} {f f′ : Frame} {held : Held} {b : Screen} {chars : List ℕ} (at : ℕ) → phase ≡ p → p ≡ Rest
       → Changes (hostText (view f (b .attrs)) (part from (t .end) input)) b f′ chars
-      → QuietTurn (standing f p held b) input from at (turn t f′ held at) (screen chars (b .attrs))
-  text-turn {f} {f′} {held} {b} {chars} at q c =
+      → QuietTurn (standing f phase held b) input from at (turn t f′ held at) (screen chars (b .attrs))
+  text-turn {f = f} {f′} {held} {b} {chars} at o q c =
       let d = rw (e, q) at c in
-      quiet-turn at (rw (e, q) (quiet-through input from Rest (standing f Rest held b) (λ x. standing f′ x held (screen chars (b .attrs)))
+      quiet-turn at (rw (o, e, q) (quiet-through input from Rest (standing f Rest held b) (λ x. standing f′ x held (screen chars (b .attrs)))
       (data-ran (bytes input from Rest) (stretch-plain input from Rest) f held b ∙ rw (← d .frame, ← d .characters))
       (rest-iac f′ held (screen chars (b .attrs)))))
 
   -- a subnegotiation's bytes
-  pub payload-turn : {f : Frame} {held held′ : Held} {b : Screen} (at o : ℕ) → p ≡ Inside o
+  pub payload-turn : {phase : Phase} {f : Frame} {held held′ : Held} {b : Screen} (at o : ℕ) → phase ≡ p → p ≡ Inside o
       → held′ ≡ holdingAll held (part from (t .end) input)
-      → QuietTurn (standing f p held b) input from at (turn t f held′ at) b
-  payload-turn {f} {held} {held′} {b} at o q c =
+      → QuietTurn (standing f phase held b) input from at (turn t f held′ at) b
+  payload-turn {f = f} {held} {held′} {b} at o k q c =
       let d = rw (e, q) at c in
-      quiet-turn at (rw (e, q) (quiet-through input from (Inside o) (standing f (Inside o) held b) (λ x. standing f x held′ b)
+      quiet-turn at (rw (k, e, q) (quiet-through input from (Inside o) (standing f (Inside o) held b) (λ x. standing f x held′ b)
       (held-ran (bytes input from (Inside o)) (stretch-plain input from (Inside o)) f o held b ∙ rw (← d))
       (inside-iac f held′ b o)))
+
+-- no byte
+pub run-none : {s : State} {input : List ℕ} {from : ℕ} → from ≤ length input → QuietRun s input from s from
+unfolding running
+run-none h = record { onward = omega arith; within = h; ran = rw part-none }
+
+-- ---- what is told next
+
+-- up to the IAC after its bytes, a whole subnegotiation is held
+opening-ran : {input : List ℕ} {from o start end next : ℕ} → Whole input from o start end next → (f : Frame) (held : Held) (b : Screen)
+    → running (standing f Iac held b) (part from (end + 1) input)
+    ≡ still (standing f (InsideIac o) (holdingAll noneHeld (part start end input)) b)
+unfolding running readOf inside
+opening-ran {input} {o = o} {start} {end} w f held b =
+    let xs = part start end input in
+    rw (
+      w .opening,
+      iac-sb f held b,
+      opening-option f held b (w .option),
+      running-append (standing f (Inside o) noneHeld b) xs (255 ∷ []),
+      held-ran xs (w .plain) f o noneHeld b,
+      inside-iac f (holdingAll noneHeld xs) b o,
+    )
+
+-- its end
+pub told-whole : {r : Reader} {input : List ℕ} {from o start end next : ℕ} {held held′ : Held} → (r .phase ≡ Iac) × Whole input from o start end next
+    → held ≡ holdingAll noneHeld (part start end input) → held′ ≡ noneHeld
+    → Tells r input from (record { event = End o; held = held; reader = record { phase = Rest; held = held′ }; next = next })
+unfolding heldAfter readOf insideIac
+told-whole {r} {o = o} {start} {end} (p, w) h n = record {
+  last = end + 1;
+  phase = InsideIac o;
+  quiet = λ f b. record {
+    onward = omega (arith, w .after, w .forth);
+    within = omega (arith, w .on, w .within);
+    ran = rw (p, h) (opening-ran w f (r .held) b);
+  };
+  lies = omega (arith, w .on, w .within);
+  next = omega (arith, w .on);
+  step = rw (w .ends);
+  held = n;
+}
+
+-- what the next byte tells
+pub told-byte : {r : Reader} {input : List ℕ} {from : ℕ} {step : Step} {held : Held} → from < length input
+    → step ≡ readOf (r .phase) (getD input from 0) → held ≡ heldAfter (r .held) (step .event)
+    → Tells r input from (record {
+      event = step .event;
+      held = r .held;
+      reader = record { phase = step .phase; held = held };
+      next = from + 1;
+    })
+told-byte {r} {from = from} l e h = record {
+  last = from;
+  phase = r .phase;
+  quiet = λ f b. run-none (omega arith);
+  lies = l;
+  next = refl;
+  step = e;
+  held = h;
+}

@@ -77,13 +77,16 @@ fn format_attrs(change: Format, attrs: &mut [u8])
     }
 }
 
-// Most decisions say nothing and change no character: those take no call.
+// Most decisions say nothing and change no character: those take no call, and no copy of what a call is given.
 fn say_any(say: Say, chars: &[u8], attrs: &[u8], reply: &mut [u8], at: usize) -> usize
     ensures { λ r. ⌜ Wrote (now (reply .entry)) at (sayPieces (now (chars .entry)) (now (attrs .entry)) say) (now (reply .exit)) r ⌝ }
 {
     match say {
         Say::Silent => at,
-        _ => write_reply(say, chars, attrs, reply, at),
+        _ => {
+            let spoken = say;
+            write_reply(spoken, chars, attrs, reply, at)
+        }
     }
 }
 
@@ -92,7 +95,10 @@ fn change_any(frame: Frame, edit: Edit, chars: &mut [u8], attrs: &[u8]) -> Frame
 {
     match edit {
         Edit::Nothing => frame,
-        _ => change_chars(frame, edit, chars, attrs),
+        _ => {
+            let change = edit;
+            change_chars(frame, change, chars, attrs)
+        }
     }
 }
 

@@ -1,4 +1,4 @@
-// Host bytes, a turn at a time: a stretch of data, a stretch of a subnegotiation's bytes, or one byte.
+// Host bytes, a turn at a time: a stretch of data or of a subnegotiation's bytes, then a whole subnegotiation or one byte.
 ghost use mathlib.Core.Path.{_≡_};
 ghost use Prim.Native.Nat.{_<_};
 ghost use lib.ListN.{length};
@@ -7,11 +7,13 @@ ghost use Rattle.rules.specs.Session.{Screen, session, state};
 ghost use Rattle.rules.specs.Operation.{happening};
 ghost use Rattle.command.specs.Frame.{lent, seen};
 ghost use Rattle.det.specs.inner.Apply.{Answerable, Applies};
-ghost use Rattle.det.specs.inner.Take.{Accepts, Taking, QuietTurn};
+ghost use Rattle.det.specs.inner.Take.{Accepts, Taking, QuietTurn, Tells};
 use crate::apply::Applied;
 use crate::apply::apply;
-use crate::held::hold_all;
 use command::held::held_after;
+use command::held::held_of;
+use command::held::hold_all;
+use command::held::none;
 use decide::negotiate::negotiate;
 use decide::obey::decide_end;
 use rules::Frame;
@@ -19,8 +21,11 @@ use rules::Held;
 use rules::Reader;
 use telnet::Event;
 use telnet::Phase;
+use telnet::ahead::Ahead;
+use telnet::ahead::look_ahead;
 use telnet::read;
-use telnet::stretch::stretch_at;
+use telnet::stretch::data_at;
+use telnet::stretch::payload_at;
 use text::data::host_text;
 use text::data::take_data;
 
@@ -71,8 +76,56 @@ fn happen(
     }
 }
 
-// One byte, by the reader.
-fn take_byte(
+// What is told next: `held` is what was held before it, `reader` stands after it, at `next`.
+pub struct Told {
+    pub event: Event,
+    pub held: Held,
+    pub reader: Reader,
+    pub next: usize,
+}
+
+// A whole subnegotiation tells its end; any other byte is asked of the reader.
+fn told_at(reader: Reader, input: &[u8], from: usize) -> Told
+    requires { ⌜ from < length (now input) ⌝ }
+    ensures { λ r. ⌜ Tells reader (now (input .entry)) from r ⌝ }
+{
+    let phase = reader.phase;
+    let ahead = look_ahead(phase, input, from);
+    match ahead {
+        Ahead::WholeSub {
+            option,
+            start,
+            end,
+            next,
+        } => Told {
+            event: Event::End(option),
+            held: held_of(&input[start..end]),
+            reader: Reader {
+                phase: Phase::Rest,
+                held: none(),
+            },
+            next: next,
+        },
+        Ahead::Other => {
+            let step = read(phase, input[from]);
+            let event = step.event;
+            let after = step.phase;
+            let held = reader.held;
+            Told {
+                event: event,
+                held: held,
+                reader: Reader {
+                    phase: after,
+                    held: held_after(held, event),
+                },
+                next: from + 1,
+            }
+        }
+    }
+}
+
+// A whole subnegotiation, or one byte.
+fn take_told(
     frame: Frame,
     reader: Reader,
     input: &[u8],
@@ -89,20 +142,16 @@ fn take_byte(
         (now (reply .entry)) at (state (session (r .frame) (r .reader)) (lent (chars .exit) (attrs .exit))) (r .end)
         (now (reply .exit)) (r .written) ⌝ }
 {
-    let phase = reader.phase;
-    let held = reader.held;
-    let step = read(phase, input[from]);
-    let event = step.event;
+    let told = told_at(reader, input, from);
+    let held = told.held;
+    let event = told.event;
     let done = happen(frame, held, event, chars, attrs, reply, at);
     let after = done.frame;
-    let next = step.phase;
+    let next = told.reader;
     Turn {
         frame: after,
-        reader: Reader {
-            phase: next,
-            held: held_after(held, event),
-        },
-        end: from + 1,
+        reader: next,
+        end: told.next,
         written: done.written,
     }
 }
@@ -122,8 +171,7 @@ fn take_text(
     ensures { λ r. ⌜ QuietTurn (state (session frame reader) (lent (chars .entry) (attrs .entry))) (now (input .entry)) from at
         r (lent (chars .exit) (attrs .entry)) ⌝ }
 {
-    let phase = reader.phase;
-    let stretch = stretch_at(phase, input, from);
+    let stretch = data_at(input, from);
     let end = stretch.end;
     let after = host_text(frame, &input[from..end], chars, attrs);
     let next = stretch.phase;
@@ -152,8 +200,7 @@ fn take_payload(
     requires { ⌜ from < length (now input) ⌝ }
     ensures { λ r. ⌜ ((b : Screen) → QuietTurn (state (session frame reader) b) (now (input .entry)) from at r b) ⌝ }
 {
-    let phase = reader.phase;
-    let stretch = stretch_at(phase, input, from);
+    let stretch = payload_at(option, input, from);
     let end = stretch.end;
     let held = reader.held;
     let after = hold_all(held, &input[from..end]);
@@ -169,7 +216,34 @@ fn take_payload(
     }
 }
 
-// A stretch where the reader stands in one, else a byte: the phase is looked at once for either.
+// The stretch that the reader stands in, if it stands in one. It draws no reply.
+fn take_stretch(
+    frame: Frame,
+    reader: Reader,
+    input: &[u8],
+    from: usize,
+    chars: &mut [u8],
+    attrs: &[u8],
+    at: usize,
+) -> Turn
+    requires { ⌜ from < length (now input) ⌝ }
+    ensures { λ r. ⌜ QuietTurn (state (session frame reader) (lent (chars .entry) (attrs .entry))) (now (input .entry)) from at
+        r (lent (chars .exit) (attrs .entry)) ⌝ }
+{
+    let phase = reader.phase;
+    match phase {
+        Phase::Rest => take_text(frame, reader, input, from, chars, attrs, at),
+        Phase::Inside(option) => take_payload(option, frame, reader, input, from, at),
+        _ => Turn {
+            frame: frame,
+            reader: reader,
+            end: from,
+            written: at,
+        },
+    }
+}
+
+// A stretch, and what is told after it.
 pub(crate) fn take_turn(
     frame: Frame,
     reader: Reader,
@@ -187,10 +261,17 @@ pub(crate) fn take_turn(
         (now (reply .entry)) at (state (session (r .frame) (r .reader)) (lent (chars .exit) (attrs .exit))) (r .end)
         (now (reply .exit)) (r .written) ⌝ }
 {
-    let phase = reader.phase;
-    match phase {
-        Phase::Rest => take_text(frame, reader, input, from, chars, attrs, at),
-        Phase::Inside(option) => take_payload(option, frame, reader, input, from, at),
-        _ => take_byte(frame, reader, input, from, chars, attrs, reply, at),
+    let stretch = take_stretch(frame, reader, input, from, chars, attrs, at);
+    let after = stretch.frame;
+    let stands = stretch.reader;
+    let next = stretch.end;
+    if input.len() <= next {
+        return Turn {
+            frame: after,
+            reader: stands,
+            end: next,
+            written: at,
+        };
     }
+    take_told(after, stands, input, next, chars, attrs, reply, at)
 }

@@ -14,6 +14,8 @@ use Rattle.telnet.specs.declared.stretch.Stretch.{Stretch}
 use Rattle.telnet.specs.Reader.{readOf}
 use Rattle.telnet.specs.Stream.{asList, eventsOf, part, stretchOf}
 use Rattle.telnet.proofs.Laws.{Reads}
+use Rattle.telnet.specs.declared.ahead.Ahead.the-variants.{WholeSub}
+use Rattle.telnet.proofs.AheadLaws.{Stands, whole-read}
 use Rattle.telnet.proofs.StretchLaws.{Onward, Lies, byte-onward, stretch-length, stretch-lies, data-stretch, payload-stretch, onward}
 use Rattle.tally.specs.declared.Tally.{Tally}
 use Rattle.tally.specs.declared.Progress.{Progress}
@@ -61,6 +63,10 @@ unfolding tallyOf tallied plus
 payload-tally o [] = refl
 payload-tally o (b ∷ bs) = rw (payload-tally o bs) (simp one-add)
 
+sub-tally : (o : ℕ) (bs : List ℕ) → tallyOf (Begin o ∷ (map (Sub o) bs ++ (End o ∷ []))) ≡ counts 0 0 (length bs) 1
+unfolding tallyOf tallied plus
+sub-tally o bs = rw (none-plus, tally-append, payload-tally o bs) (simp (add-zero, zero-add))
+
 -- ---- counting on
 module _ {input : List ℕ} {p : Progress} (c : Counting input p) where
   -- What is left tells these events first: with them it is counted further.
@@ -79,42 +85,54 @@ module _ {input : List ℕ} {p : Progress} (c : Counting input p) where
       let adds = event-tally (readOf (p .phase) (getD input (p .at) 0) .event) in
       further refl (byte-onward input (p .phase) (p .at) h) (rw (adds .0)) (omega (arith, c .few))
 
-  -- a stretch, which adds its length to one count
-  module _ (h : p .at < length input) {s : Stretch} (e : s ≡ stretchOf (p .phase) input (p .at)) where
+  -- a stretch of a reader that stands here, which adds its length to one count
+  module _ (h : p .at < length input) (here : Phase) (q : p .phase ≡ here) {s : Stretch} (e : s ≡ stretchOf here input (p .at)) where
     pub stretch-lies-here : Lies input (p .at) s
-    stretch-lies-here = rw e (stretch-lies input (p .at) (p .phase) h)
+    stretch-lies-here = rw e (stretch-lies input (p .at) here h)
 
     -- its bytes
     abbrev bytes : List ℕ
     bytes = part (p .at) (s .end) input
 
     long : length bytes ≡ s .end - p .at
-    long = rw e (stretch-length input (p .at) (p .phase))
+    long = rw e (stretch-length input (p .at) here)
 
-    counted-through : (es : List Event) (t : Tally) → Reads (p .phase) (part (p .at) (s .next) input) es (s .phase)
+    counted-through : (es : List Event) (t : Tally) → Reads here (part (p .at) (s .next) input) es (s .phase)
         → plus (p .tally) (tallyOf es) ≡ t → total t ≤ s .next → Further input p (record { phase = s .phase; at = s .next; tally = t })
     counted-through es t r adds few =
-        let l = stretch-lies-here in further refl (onward input (p .at) (omega (arith, l .further)) r) adds (few, l .further)
+        let l = stretch-lies-here in further q (onward input (p .at) (omega (arith, l .further)) r) adds (few, l .further)
 
     abbrev more-data : Tally
     more-data = let t = p .tally in counts (t .data_bytes + (s .end - p .at)) (t .negotiations) (t .payload) (t .ended)
 
-    pub data-further : p .phase ≡ Rest → Further input p (record { phase = s .phase; at = s .next; tally = more-data })
+    pub data-further : here ≡ Rest → Further input p (record { phase = s .phase; at = s .next; tally = more-data })
     unfolding plus
-    data-further q =
+    data-further k =
         let l = stretch-lies-here in
-        counted-through (map Data bytes) more-data (rw (e, q) (data-stretch input (p .at))) (rw (data-tally, long) (simp add-zero))
+        counted-through (map Data bytes) more-data (rw (e, k) (data-stretch input (p .at))) (rw (data-tally, long) (simp add-zero))
         (omega (arith, l .onward, l .forth, c .few))
 
     abbrev more-payload : Tally
     more-payload = let t = p .tally in counts (t .data_bytes) (t .negotiations) (t .payload + (s .end - p .at)) (t .ended)
 
-    pub payload-further : (o : ℕ) → p .phase ≡ Inside o → Further input p (record { phase = s .phase; at = s .next; tally = more-payload })
+    pub payload-further : (o : ℕ) → here ≡ Inside o → Further input p (record { phase = s .phase; at = s .next; tally = more-payload })
     unfolding plus
-    payload-further o q =
+    payload-further o k =
         let l = stretch-lies-here in
-        counted-through (map (Sub o) bytes) more-payload (rw (e, q) (payload-stretch input (p .at) o))
+        counted-through (map (Sub o) bytes) more-payload (rw (e, k) (payload-stretch input (p .at) o))
         (rw (payload-tally o, long) (simp add-zero)) (omega (arith, l .onward, l .forth, c .few))
+
+  -- a whole subnegotiation, which adds its length to one count and itself to another
+  module _ {o start end next : ℕ} (w : Stands input (p .phase) (p .at) (WholeSub o start end next)) where
+    abbrev one-more-sub : Tally
+    one-more-sub = let t = p .tally in counts (t .data_bytes) (t .negotiations) (t .payload + (end - start)) (t .ended + 1)
+
+    pub sub-further : Further input p (record { phase = Rest; at = next; tally = one-more-sub })
+    unfolding plus
+    sub-further =
+        let k = w .1 in
+        further (w .0) (onward input (p .at) (omega (arith, k .after, k .forth, k .on)) (whole-read k))
+        (rw (sub-tally, k .long) (simp add-zero)) (omega (arith, k .after, k .forth, k .on, c .few))
 
   -- at the end all is counted
   pub counting-done : length input ≤ p .at → p .tally ≡ tallyOf (eventsOf Rest input)

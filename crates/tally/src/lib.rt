@@ -1,7 +1,7 @@
 // Counts what a Telnet stream holds, from a reader at rest. It is the reader used by itself: no screen, no option's meaning.
-// Stretches of data and of payload are taken at once, so that text costs little; the reader is asked about the other bytes.
+// Stretches of data and of payload are taken at once, and so are whole subnegotiations; the reader is asked about the other bytes.
 ghost use mathlib.Core.Path.{_≡_};
-ghost use Prim.Native.Nat.{_+_, _<_, _^_};
+ghost use Prim.Native.Nat.{_+_, _≤_, _<_, _^_};
 ghost use lib.ListN.{length};
 ghost use Rattle.telnet.specs.declared.Phase.the-variants.{Rest, Inside};
 ghost use Rattle.telnet.specs.Stream.{eventsOf};
@@ -9,8 +9,11 @@ ghost use Rattle.tally.specs.Counts.{tallied, plus, tallyOf};
 ghost use Rattle.tally.specs.inner.Counting.{total, Counting, Further};
 use telnet::Event;
 use telnet::Phase;
+use telnet::ahead::Ahead;
+use telnet::ahead::look_ahead;
 use telnet::read;
-use telnet::stretch::stretch_at;
+use telnet::stretch::data_at;
+use telnet::stretch::payload_at;
 
 // How many events of each kind.
 pub struct Tally {
@@ -71,8 +74,7 @@ fn data_stretch(progress: Progress, input: &[u8]) -> Progress
     ensures { λ r. ⌜ Further (now (input .entry)) progress r ⌝ }
 {
     let at = progress.at;
-    let here = progress.phase;
-    let stretch = stretch_at(here, input, at);
+    let stretch = data_at(input, at);
     let mut tally = progress.tally;
     tally.data_bytes += stretch.end - at;
     let phase = stretch.phase;
@@ -90,8 +92,7 @@ fn payload_stretch(option: u8, progress: Progress, input: &[u8]) -> Progress
     ensures { λ r. ⌜ Further (now (input .entry)) progress r ⌝ }
 {
     let at = progress.at;
-    let here = progress.phase;
-    let stretch = stretch_at(here, input, at);
+    let stretch = payload_at(option, input, at);
     let mut tally = progress.tally;
     tally.payload += stretch.end - at;
     let phase = stretch.phase;
@@ -102,6 +103,43 @@ fn payload_stretch(option: u8, progress: Progress, input: &[u8]) -> Progress
     }
 }
 
+// A whole subnegotiation, where one is ahead.
+fn sub_ahead(progress: Progress, input: &[u8]) -> Progress
+    requires { ⌜ Counting (now input) progress ⌝ }
+    ensures { λ r. ⌜ Counting (now (input .entry)) r × (progress .at ≤ r .at) ⌝ }
+{
+    let phase = progress.phase;
+    let ahead = look_ahead(phase, input, progress.at);
+    match ahead {
+        Ahead::WholeSub {
+            option: _,
+            start,
+            end,
+            next,
+        } => {
+            let mut tally = progress.tally;
+            tally.payload += end - start;
+            tally.ended += 1;
+            Progress {
+                phase: Phase::Rest,
+                at: next,
+                tally: tally,
+            }
+        }
+        Ahead::Other => progress,
+    }
+}
+
+// At rest: the data up to the next IAC, that IAC, and the subnegotiation after it if it is whole.
+fn from_rest(progress: Progress, input: &[u8]) -> Progress
+    requires { ⌜ progress .phase ≡ Rest ⌝ }
+    requires { ⌜ Counting (now input) progress × (progress .at < length (now input)) ⌝ }
+    ensures { λ r. ⌜ Further (now (input .entry)) progress r ⌝ }
+{
+    let after = data_stretch(progress, input);
+    sub_ahead(after, input)
+}
+
 // A stretch where the reader stands in one, else a byte: the phase is looked at once for either.
 fn turn(progress: Progress, input: &[u8]) -> Progress
     requires { ⌜ Counting (now input) progress × (progress .at < length (now input)) ⌝ }
@@ -109,7 +147,7 @@ fn turn(progress: Progress, input: &[u8]) -> Progress
 {
     let phase = progress.phase;
     match phase {
-        Phase::Rest => data_stretch(progress, input),
+        Phase::Rest => from_rest(progress, input),
         Phase::Inside(option) => payload_stretch(option, progress, input),
         _ => one(progress, input),
     }

@@ -37,12 +37,19 @@ module _ (s : List ℕ) (i : ℕ) where
   unfolding dataEnd beforeIac
   end-past h = rw (drop-of-length-le s h, add-zero)
 
+-- the byte after some is not IAC
+pub end-next : (s : List ℕ) (from i : ℕ) → from + i < length s → (getD s (from + i) 0 ≡ iac → ⊥)
+    → dataEnd s (from + i) ≡ dataEnd s (from + (i + 1))
+end-next s from i w n = let a : from + (i + 1) ≡ from + i + 1 = omega arith in rw a (end-skip s (from + i) w n)
+
+-- all eight are behind
+pub end-eight : (s : List ℕ) (at : ℕ) {n : ℕ} → dataEnd s at ≡ dataEnd s (at + n) → n ≡ 8 → dataEnd s at ≡ dataEnd s (at + 8)
+end-eight s at e q = rw q at e
+
 -- none of the bytes so far is IAC, and this one is not
 pub end-more : (s : List ℕ) (from i : ℕ) (all : Bool) → (all ≡ true → dataEnd s from ≡ dataEnd s (from + i)) → from + i < length s
     → (all && not (eqb (getD s (from + i) 0) iac)) ≡ true → dataEnd s from ≡ dataEnd s (from + (i + 1))
-end-more s from i true h w e =
-    let a : from + (i + 1) ≡ from + i + 1 = omega arith in
-    rw a (h refl ∙ end-skip s (from + i) w (eqb-false _ _ (not-true _ e)))
+end-more s from i true h w e = h refl ∙ end-next s from i w (eqb-false _ _ (not-true _ e))
 end-more s from i false h w e = let z : _≡_ {A = ℕ} 0 1 = cc in absurd (omega arith)
 
 -- n bytes stand before the first IAC: none of them is IAC, and IAC is next, if any byte is.
@@ -86,15 +93,15 @@ module _ (s : List ℕ) (from : ℕ) where
   unfolding dataEnd
   count = omega arith
 
-  end-iac : dataEnd s from < length s → getD s (dataEnd s from) 0 ≡ iac
+  pub end-iac : dataEnd s from < length s → getD s (dataEnd s from) 0 ≡ iac
   unfolding dataEnd
   end-iac h = rw getD-drop at (before (drop from s) .next (rw length-drop (omega arith)))
 
-  end-forth : from ≤ dataEnd s from
+  pub end-forth : from ≤ dataEnd s from
   unfolding dataEnd
   end-forth = omega arith
 
-  end-within : from ≤ length s → dataEnd s from ≤ length s
+  pub end-within : from ≤ length s → dataEnd s from ≤ length s
   unfolding dataEnd
   end-within h = omega (arith, rw length-drop at (before (drop from s) .within))
 
@@ -127,6 +134,9 @@ module _ (s : List ℕ) (from : ℕ) where
     pub stretch-last : length s ≤ dataEnd s from → here ≡ record { end = dataEnd s from; next = dataEnd s from; phase = p }
     unfolding stretchOf
     stretch-last h = rw (le-ltb _ _ h)
+
+    pub stretch-past : length s ≤ from → here ≡ record { end = from; next = from; phase = p }
+    stretch-past h = let e = end-past s from h in rw e at (stretch-last (rw e h))
 
     pub stretch-lies : from < length s → Lies s from here
     stretch-lies h = go (ltb (dataEnd s from) (length s)) refl

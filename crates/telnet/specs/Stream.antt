@@ -1,14 +1,18 @@
 -- A list of bytes, read one after the other.
 use Prim.Native.Nat.{ℕ, suc, _+_, _-_}
+use mathlib.Core.Bool.{Bool, not, _&&_}
 use mathlib.Core.List.{List, [], _∷_, _++_}
 use lib.Dec.{eqb, ltb}
-use lib.ListN.{length, take, drop}
+use lib.ListN.{length, take, drop, getD}
 use Rattle.telnet.specs.If.{if_then_else_}
 use Rattle.telnet.specs.declared.Phase.{Phase}
+use Rattle.telnet.specs.declared.Phase.the-variants.{Rest, Iac, Negotiating, Opening, OpeningIac, Inside, InsideIac}
 use Rattle.telnet.specs.declared.Event.{Event}
 use Rattle.telnet.specs.declared.Event.the-variants.{Nothing, Data, Negotiation, Begin, Sub, End, EndBare, Lost}
 use Rattle.telnet.specs.declared.stretch.Stretch.{Stretch}
-use Rattle.telnet.specs.Reader.{iac, readOf}
+use Rattle.telnet.specs.declared.ahead.Ahead.{Ahead}
+use Rattle.telnet.specs.declared.ahead.Ahead.the-variants.{WholeSub, Other}
+use Rattle.telnet.specs.Reader.{iac, sb, se, readOf}
 
 -- where the reader stands after the bytes
 unfoldable pub phaseAfter : Phase → List ℕ → Phase
@@ -55,3 +59,25 @@ stretchOf p bytes from =
       next = if more then end + 1 else end;
       phase = if more then (readOf p iac) .phase else p;
     }
+
+-- A whole subnegotiation stands from `from` on, after an IAC: SB, an option byte that is not IAC, and at the next IAC its end.
+unfoldable pub wholeFrom : List ℕ → ℕ → Bool
+wholeFrom bytes from =
+    let end = dataEnd bytes (from + 2) in
+    eqb (getD bytes from 0) sb && (not (eqb (getD bytes (from + 1) 0) iac)
+    && (ltb (end + 1) (length bytes) && eqb (getD bytes (end + 1) 0) se))
+
+unfoldable pub subFrom : List ℕ → ℕ → Ahead
+subFrom bytes from =
+    let end = dataEnd bytes (from + 2) in
+    if wholeFrom bytes from then WholeSub (getD bytes (from + 1) 0) (from + 2) end (end + 2) else Other
+
+-- what is ahead of a reader in this phase: a whole subnegotiation is looked for after an IAC alone
+unfoldable pub aheadOf : Phase → List ℕ → ℕ → Ahead
+aheadOf Rest bytes from = Other
+aheadOf Iac bytes from = subFrom bytes from
+aheadOf (Negotiating v) bytes from = Other
+aheadOf Opening bytes from = Other
+aheadOf OpeningIac bytes from = Other
+aheadOf (Inside o) bytes from = Other
+aheadOf (InsideIac o) bytes from = Other

@@ -4,6 +4,7 @@
 ghost use mathlib.Core.Path.{_≡_};
 ghost use Rattle.telnet.specs.Reader.{afterIac, thrownAway, opening, openingIac, inside, insideIac, readOf};
 
+pub mod ahead;
 pub mod code;
 pub mod stretch;
 

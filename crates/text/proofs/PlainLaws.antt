@@ -71,7 +71,7 @@ free-each suppressed {attrs} {cell} {n} {k} p l h =
 
 -- ---- one character
 
-printed : (v : View) (b : ℕ) → printable b ≡ true → hostData v b ≡ hostCharacter v b
+pub printed : (v : View) (b : ℕ) → printable b ≡ true → hostData v b ≡ hostCharacter v b
 unfolding hostData
 printed v b p = rw p
 

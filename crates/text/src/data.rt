@@ -9,10 +9,10 @@ ghost use Rattle.command.specs.Frame.{lent, seen};
 ghost use Rattle.text.specs.Text.{Changes, hostText};
 ghost use Rattle.text.specs.inner.Text.{TextStep};
 ghost use Rattle.text.specs.inner.Plain.{Each};
+use crate::plain::character_at;
 use crate::plain::count_characters;
 use crate::plain::last_counts;
 use crate::plain::open_run;
-use crate::plain::two_characters;
 use command::character::is_printable;
 use command::frame::cursor_cell;
 use command::frame::moved;
@@ -101,7 +101,7 @@ fn put_text(
     now
 }
 
-// Data: the frame after it. It does what its bytes do one after the other.
+// Data: the frame after it. It does what its bytes do one after the other. One character alone is not worth a copy.
 pub fn host_text(frame: Frame, bytes: &[u8], chars: &mut [u8], attrs: &[u8]) -> Frame
     ensures { λ r. ⌜ Changes (hostText (seen frame (attrs .entry)) (now (bytes .entry)))
         (lent (chars .entry) (attrs .entry)) r (now (chars .exit)) ⌝ }
@@ -109,9 +109,16 @@ pub fn host_text(frame: Frame, bytes: &[u8], chars: &mut [u8], attrs: &[u8]) -> 
     let mut now = frame;
     let mut at = 0;
     while at < bytes.len() {
-        let text = two_characters(bytes, at);
+        let byte = bytes[at];
+        let text = is_printable(byte);
         if !text {
-            now = take_data(now, bytes[at], chars, attrs);
+            now = control(now, byte);
+            at += 1;
+            continue;
+        }
+        let more = character_at(bytes, at + 1);
+        if !more {
+            now = put_character(now, byte, chars, attrs);
             at += 1;
             continue;
         }

@@ -3,7 +3,7 @@
 ghost use mathlib.Core.Path.{_≡_};
 ghost use mathlib.Core.Bool.{true, _&&_};
 ghost use Prim.Native.Nat.{_+_, _-_, _≤_, _<_};
-ghost use lib.ListN.{length};
+ghost use lib.ListN.{length, getD};
 ghost use Rattle.screen.specs.Cells.{cellOf};
 ghost use Rattle.rules.specs.Session.{printable};
 ghost use Rattle.rules.specs.Cursor.{nextCell};
@@ -36,19 +36,14 @@ fn minus(a: usize, b: usize) -> usize
 
 // ---- characters in a row
 
-// Do two stand there? Fewer are not worth a copy.
-pub(crate) fn two_characters(bytes: &[u8], from: usize) -> bool
-    requires { ⌜ from < length (now bytes) ⌝ }
-    ensures { λ r. ⌜ (r ≡ true → (from + 2 ≤ length (now (bytes .entry))) × Each printable (now (bytes .entry)) from 2) ⌝ }
+// Does one stand there?
+pub(crate) fn character_at(bytes: &[u8], at: usize) -> bool
+    ensures { λ r. ⌜ (r ≡ true → (at < length (now (bytes .entry))) × (printable (getD (now (bytes .entry)) at 0) ≡ true)) ⌝ }
 {
-    if bytes.len() - from < 2 {
-        return false;
+    if at < bytes.len() {
+        return is_printable(bytes[at]);
     }
-    let one = is_printable(bytes[from]);
-    if !one {
-        return false;
-    }
-    is_printable(bytes[from + 1])
+    false
 }
 
 fn sixteen_characters(bytes: &[u8], from: usize) -> bool

@@ -1,4 +1,5 @@
 -- `data_stretch` meets its contract: a stretch is counted at once.
+use mathlib.Core.Path.{refl}
 use borrow.Author.Needs.{needs}
 use Rattle.tally.proofs.Laws.{stretch-lies-here, data-further}
 use Rattle.tally.proofs.data_stretch.Statement.{statement}
@@ -11,8 +12,8 @@ data-stretch-spec =
     (λ c κs. search needs)
     (λ c. let d = c .before .before in
     let s = d .before .before .pre in
-    stretch-lies-here (s .1 .0) (s .1 .1) (d .stretch-at .ensures) .onward)
+    stretch-lies-here (s .1 .0) (s .1 .1) _ (s .0) (d .data-at .ensures) .onward)
     (λ c. search needs)
     (λ c. let d = c .before .before .before in
     let s = d .before .before .pre in
-    data-further (s .1 .0) (s .1 .1) (d .stretch-at .ensures) (s .0)))
+    data-further (s .1 .0) (s .1 .1) _ (s .0) (d .data-at .ensures) refl))

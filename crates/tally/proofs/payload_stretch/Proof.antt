@@ -1,4 +1,5 @@
 -- `payload_stretch` meets its contract: a stretch is counted at once.
+use mathlib.Core.Path.{refl}
 use borrow.Author.Needs.{needs}
 use Rattle.tally.proofs.Laws.{stretch-lies-here, payload-further}
 use Rattle.tally.proofs.payload_stretch.Statement.{statement}
@@ -11,8 +12,8 @@ payload-stretch-spec =
     (λ c κs. search needs)
     (λ c. let d = c .before .before in
     let s = d .before .before .pre in
-    stretch-lies-here (s .1 .0) (s .1 .1) (d .stretch-at .ensures) .onward)
+    stretch-lies-here (s .1 .0) (s .1 .1) _ (s .0) (d .payload-at .ensures) .onward)
     (λ c. search needs)
     (λ c. let d = c .before .before .before in
     let s = d .before .before .pre in
-    payload-further (s .1 .0) (s .1 .1) (d .stretch-at .ensures) _ (s .0)))
+    payload-further (s .1 .0) (s .1 .1) _ (s .0) (d .payload-at .ensures) _ refl))

@@ -1,4 +1,5 @@
 -- `take_text` meets its contract: a stretch of data, and the IAC after it.
+use mathlib.Core.Path.{refl}
 use native.Mathlib.Omega.{arith}
 use borrow.Author.Needs.{needs}
 use Rattle.det.proofs.QuietLaws.{lies, text-turn}
@@ -10,11 +11,11 @@ take-text-spec =
     tie.close
     (tie.spec
     (λ c κs. search needs)
-    (λ c. lies (c .before .before .before .before .pre .1) _ (c .stretch-at .ensures) .onward)
-    (λ c. lies (c .before .before .before .before .pre .1) _ (c .stretch-at .ensures) .onward)
-    (λ c. let l = lies (c .before .before .before .before .pre .1) _ (c .stretch-at .ensures) in omega (arith, l .forth, l .within))
+    (λ c. lies (c .before .before .before .before .pre .1) _ (c .data-at .ensures) .onward)
+    (λ c. lies (c .before .before .before .before .pre .1) _ (c .data-at .ensures) .onward)
+    (λ c. let l = lies (c .before .before .before .before .pre .1) _ (c .data-at .ensures) in omega (arith, l .forth, l .within))
     (λ c κs. search needs) (λ c. search needs)
     (λ c. let t = c .before .before .before in
     let s = t .before .before .before in
     let start = s .before .before .before .before in
-    text-turn (start .pre .1) _ (s .stretch-at .ensures) _ (start .pre .0) (t .host-text .ensures)))
+    text-turn (start .pre .1) _ (s .data-at .ensures) _ (start .pre .0) refl (t .host-text .ensures)))

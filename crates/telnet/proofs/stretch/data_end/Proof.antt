@@ -1,10 +1,6 @@
--- `data_end` meets its contract. The loop's invariant: the answer from the start is the answer from here.
-use mathlib.Core.Path.{_≡_, sym, _∙_}
-use Prim.Native.Nat.{_-_}
+-- `data_end` meets its contract: an IAC among the first eight bytes, or one that is looked for further on.
+use mathlib.Core.Path.{sym}
 use borrow.Author.Needs.{needs}
-use lib.ListN.{length}
-use Rattle.telnet.specs.Stream.{dataEnd}
-use Rattle.telnet.proofs.StretchLaws.{end-hit, end-skip, end-past}
 use Rattle.telnet.proofs.stretch.data_end.Statement.{statement}
 use Rattle.telnet.proofs.stretch.data_end.Tie as tie
 
@@ -12,14 +8,6 @@ pub data-end-spec : {M : Type 1} → statement M
 data-end-spec =
     tie.close
     (tie.spec
-    (λ input from at₀ at. dataEnd input from ≡ dataEnd input at)
-    (λ input from at₀ at. length input - at)
-    (λ c κs. search needs)
-    (λ c. c .skip-data .ensures)
-    (λ c. search needs)
-    (λ c. let l = c .before .before .before in
-    sym (l .loop .inv ∙ end-hit (l .before .before .before .args .input .now) (l .loop .at) (c .before .before .loop-test .taken) (c .if1 .taken)))
-    (λ c. search needs) (λ c. search needs)
-    (λ c. let l = c .before .before .before in
-    l .loop .inv ∙ end-skip (l .before .before .before .args .input .now) (l .loop .at) (c .before .before .loop-test .taken) (c .if1 .left))
-    (λ c. sym (c .before .loop .inv ∙ end-past _ (c .before .loop .at) (c .loop-test .left))))
+    (λ c. search needs) (λ c κs. search needs) (λ c. search needs) (λ c κs. search needs) (λ c. search needs)
+    (λ c. sym (c .before .in-eight .ensures .1 (c .if2 .taken)))
+    (λ c κs. search needs) (λ c. search needs))

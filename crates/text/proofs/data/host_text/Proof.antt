@@ -6,8 +6,10 @@ use borrow.Author.Needs.{needs}
 use borrow.Author.Tests.{not-false}
 use lib.ListN.{length}
 use Rattle.text.specs.inner.Text.{Texted}
+use Rattle.screen.proofs.TestLaws.{failing, passing}
+use Rattle.text.proofs.WriteLaws.{unprinted}
 use Rattle.text.proofs.TextLaws.{texted-none, texted-more, texted-all}
-use Rattle.text.proofs.PlainLaws.{each-row}
+use Rattle.text.proofs.PlainLaws.{each-two, each-row, printed}
 use Rattle.text.proofs.data.host_text.Statement.{statement}
 use Rattle.text.proofs.data.host_text.Tie as tie
 
@@ -18,19 +20,35 @@ host-text-spec =
     (λ bytes chars₀ attrs now₀ at₀ chars now at. Texted attrs bytes now₀ chars₀ at now chars × (length chars ≡ length chars₀))
     (λ bytes chars₀ attrs now₀ at₀ chars now at. length bytes - at)
     (λ c. (texted-none _ (c .before .before .before .args .bytes .now) _ _, refl))
-    (λ c κs. search needs) (λ c. search needs) (λ c κs. search needs) (λ c. search needs) (λ c. search needs)
+    (λ c. search needs) (λ c κs. search needs) (λ c κs. search needs) (λ c. search needs) (λ c. search needs)
+    (λ c. let p = c .before .before in
+    let l = p .before .before in (
+      texted-more _ _ _ (l .before .loop .inv .0) (l .loop-test .taken)
+          (unprinted _ _ (failing (p .is-printable .ensures) (c .before .if1 .taken)) (c .control .ensures _)),
+      search needs,
+    ))
+    (λ c. search needs) (λ c κs. search needs) (λ c κs. search needs) (λ c. search needs) (λ c. search needs)
     (λ c. let d = c .before .before in
-    let l = d .before .before .before .before .before in
-    (texted-more _ _ _ (l .before .loop .inv .0) (l .loop-test .taken) (d .take-data .ensures), search needs))
-    (λ c. let t = c .before in omega (arith, t .two-characters .ensures (not-false _ (c .if1 .left)) .0))
-    (λ c. let t = c .before in omega (arith, t .two-characters .ensures (not-false _ (c .if1 .left)) .0))
-    (λ c κs. let t = c .before in t .two-characters .ensures (not-false _ (c .if1 .left)) .0)
+    let i = d .before .before .before .before in
+    let l = i .before .before .before in (
+      texted-more _ _ _ (l .before .loop .inv .0) (l .loop-test .taken)
+          (rw (printed _ _ (passing (i .before .is-printable .ensures) (i .if1 .left))) (d .put-character .ensures)),
+      search needs,
+    ))
+    (λ c. search needs) (λ c. search needs)
+    (λ c κs. let t = c .before in omega (arith, t .character-at .ensures (not-false _ (c .if2 .left)) .0))
     (λ c. omega (arith, c .count-characters .ensures .0))
     (λ c κs. let n = c .before in
-    let t = n .before .before .two-characters .ensures (not-false _ (n .before .if1 .left)) in
-    (omega arith, n .count-characters .ensures .0, each-row (t .1) (n .count-characters .ensures .1)))
-    (λ c. omega (arith, c .before .before .before .before .before .before .before .loop-test .taken))
+    let t = n .before .before in
+    let p = t .before .before in (
+      omega arith,
+      n .count-characters .ensures .0,
+      each-row (each-two (passing (p .is-printable .ensures) (t .before .if1 .left)) (t .character-at .ensures (not-false _ (n .before .if2 .left)) .1))
+          (n .count-characters .ensures .1),
+    ))
+    (λ c. omega (arith, c .before .before .before .before .before .before .before .before .before .before .loop-test .taken))
     (λ c. let p = c .before .before in
-    (p .put-text .ensures .on _ _ (p .before .before .before .before .before .before .loop .inv .0), search needs))
+    let l = p .before .before .before .before .before .before .before .before .before .loop in
+    (p .put-text .ensures .on _ _ (l .inv .0), search (needs, c .slice-known3 .given, c .before .chars2 .given, l .inv .1)))
     (λ c. search needs)
     (λ c. texted-all _ _ _ (c .before .loop .inv .0) (c .loop-test .left)))

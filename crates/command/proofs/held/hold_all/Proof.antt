@@ -3,10 +3,10 @@ use mathlib.Core.Path.{_≡_, refl}
 use Prim.Native.Nat.{_-_}
 use lib.ListN.{length, take}
 use borrow.Author.Needs.{needs}
-use Rattle.det.specs.inner.Take.{holdingAll}
-use Rattle.det.proofs.LoopLaws.{held-more, held-all}
-use Rattle.det.proofs.held.hold_all.Statement.{statement}
-use Rattle.det.proofs.held.hold_all.Tie as tie
+use Rattle.command.specs.Held.{holdingAll}
+use Rattle.command.proofs.HeldLaws.{held-more, held-all}
+use Rattle.command.proofs.held.hold_all.Statement.{statement}
+use Rattle.command.proofs.held.hold_all.Tie as tie
 
 pub hold-all-spec : {M : Type 1} → statement M
 unfolding holdingAll

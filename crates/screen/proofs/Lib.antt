@@ -3,4 +3,5 @@ pub mod WordLaws
 pub mod ListLaws
 pub mod CellLaws
 pub mod FieldLaws
+pub mod SkipLaws
 pub mod EditLaws

@@ -5,3 +5,4 @@ pub mod Fields
 pub mod Scans
 pub mod Edits
 pub mod Classes
+pub mod inner

@@ -1,12 +1,12 @@
 // The list of subcommands: what a code means, and how many parameters it takes.
 ghost use mathlib.Core.Path.{_≡_};
 ghost use Rattle.rules.specs.Command.{meaning, rowOf};
+use edit::range::Shift;
 use rules::Area;
 use rules::Code;
 use rules::Command;
 use rules::Destination;
 use rules::Facility;
-use screen::edit::Shift;
 
 fn known(command: Command, parameters: u8) -> Code
     ensures { λ r. ⌜ r ≡ Code.Known command parameters ⌝ }

@@ -5,12 +5,12 @@ use mathlib.Core.List.{List, []}
 use Prim.Native.Nat.{ℕ, zero, suc, _+_, _≤_, _<_}
 use native.Mathlib.Omega.{arith}
 use lib.ListN.{length, replicate, length-replicate, getD-replicate}
-use Rattle.screen.specs.declared.edit.Shift.{Shift}
+use Rattle.edit.specs.declared.range.Shift.{Shift}
 use Rattle.screen.specs.Cells.{lineEnd}
 use Rattle.screen.specs.Fields.{fieldEnd}
-use Rattle.screen.specs.Edits.{formatted, formattedCell}
+use Rattle.edit.specs.Edits.{formatted, formattedCell}
 use Rattle.screen.proofs.WordLaws.{either, tabulated}
-use Rattle.screen.proofs.ListLaws.{in-range}
+use Rattle.edit.proofs.ListLaws.{in-range}
 use Rattle.screen.proofs.CellLaws.{line-within}
 use Rattle.screen.proofs.FieldLaws.{end-gt}
 use Rattle.rules.specs.declared.Command.{Command}

@@ -4,7 +4,7 @@ use mathlib.Core.List.{List, [], _∷_}
 use Prim.Native.Nat.{ℕ, _≤_}
 use lib.ListN.{length}
 use Rattle.screen.specs.Words.{if_then_else_}
-use Rattle.screen.specs.Edits.{formatted}
+use Rattle.edit.specs.Edits.{formatted}
 use Rattle.rules.specs.Session.{View, view, withAttrs}
 use Rattle.rules.specs.Effect.{Effect, Part, put, erase, shift, text, message, changing, quiet}
 use Rattle.rules.specs.Telnet.{answer, hostCharacters}

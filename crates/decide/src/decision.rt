@@ -1,9 +1,9 @@
 // What a host byte or a key is decided to do. Characters are named by their cells.
 ghost use mathlib.Core.Path.{_≡_};
 ghost use Rattle.decide.specs.inner.Decision.{decision};
+use edit::range::Shift;
 use rules::Frame;
 use screen::cell::Place;
-use screen::edit::Shift;
 use telnet::Verb;
 
 // What becomes of the characters.

@@ -27,12 +27,12 @@ use command::frame::cursor_cell;
 use command::frame::cursor_guarded;
 use command::frame::fits;
 use command::number::FN;
+use edit::range::Shift;
 use rules::Area;
 use rules::Destination;
 use rules::Frame;
 use rules::Key;
 use rules::Refusal;
-use screen::edit::Shift;
 
 // 128 to 143 are the function keys, numbered from 1.
 fn function_key(key: u8) -> Key

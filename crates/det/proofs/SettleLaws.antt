@@ -7,9 +7,9 @@ use native.Mathlib.Omega.{arith}
 use borrow.Author.Tests.{eqb-true}
 use lib.Dec.{eqb}
 use lib.ListN.{length, replicate, length-replicate, getD-replicate}
-use Rattle.screen.specs.Edits.{erased, erasedCell, formatted}
+use Rattle.edit.specs.Edits.{erased, erasedCell, formatted}
 use Rattle.screen.proofs.WordLaws.{and-left, and-right, tabulated}
-use Rattle.screen.proofs.ListLaws.{in-range}
+use Rattle.edit.proofs.ListLaws.{in-range}
 use Rattle.rules.specs.declared.Refusal.{Refusal}
 use Rattle.rules.specs.declared.Refusal.the-variants.{Taken}
 use Rattle.rules.specs.declared.Session.{Session}

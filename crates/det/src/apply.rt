@@ -14,11 +14,11 @@ use decide::decision::Decision;
 use decide::decision::Edit;
 use decide::decision::Format;
 use decide::decision::Say;
+use edit::range::erase;
+use edit::range::format;
+use edit::range::shift_range;
 use reply::write_reply;
 use rules::Frame;
-use screen::edit::erase;
-use screen::edit::format;
-use screen::edit::shift_range;
 use text::data::put_character;
 use text::data::set_cell;
 

@@ -14,6 +14,8 @@ use command::held::none;
 use decide::keys::key_of;
 use decide::keys::press;
 use decide::keys::refuse_pressed;
+use edit::range::erase;
+use edit::range::format;
 use reply::write_reply;
 use rules::Answer;
 use rules::Frame;
@@ -23,8 +25,6 @@ use rules::Session;
 use screen::cell::Column;
 use screen::cell::Line;
 use screen::cell::Place;
-use screen::edit::erase;
-use screen::edit::format;
 use telnet::Phase;
 
 // Cursor (0,0), DET off, protection in effect, nothing half read.

@@ -14,7 +14,7 @@ use Rattle.telnet.specs.declared.Phase.{Phase}
 use Rattle.telnet.specs.declared.Phase.the-variants.{Rest, Iac, Negotiating, Opening, OpeningIac, Inside, InsideIac}
 use Rattle.screen.specs.Words.{tabulate}
 use Rattle.screen.specs.Cells.{place}
-use Rattle.screen.specs.Edits.{Copied}
+use Rattle.edit.specs.Edits.{Copied}
 use Rattle.screen.proofs.WordLaws.{true-or-false, and-left, and-right, tabulated}
 use Rattle.rules.specs.declared.Held.{Held}
 use Rattle.rules.specs.declared.Session.{Session}

@@ -3,6 +3,7 @@ ghost use mathlib.Core.Path.{_≡_};
 ghost use lib.ListN.{length};
 ghost use Rattle.telnet.specs.declared.Phase.the-variants.{Negotiating};
 ghost use Rattle.det_abi.specs.Layout.{sessionLength, bitOf, phaseNumber, phaseOption, encoded, byteAt, isSession, phaseOf, decoded};
+use edit::text::copy_text;
 use rules::Frame;
 use rules::Held;
 use rules::Reader;
@@ -10,7 +11,6 @@ use rules::Session;
 use screen::cell::Column;
 use screen::cell::Line;
 use screen::cell::Place;
-use screen::text::copy_text;
 use telnet::Phase;
 use telnet::Verb;
 

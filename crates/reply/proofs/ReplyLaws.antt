@@ -13,7 +13,7 @@ use Rattle.telnet.specs.Reader.{iac, se}
 use Rattle.telnet.specs.Writer.{doubled, subnegotiation, negotiation}
 use Rattle.screen.specs.Words.{if_then_else_}
 use Rattle.screen.specs.Fields.{opensAt, fieldEnd}
-use Rattle.screen.specs.Edits.{lies}
+use Rattle.edit.specs.Edits.{lies}
 use Rattle.screen.proofs.WordLaws.{true-or-false}
 use Rattle.screen.proofs.FieldLaws.{end-gt, end-le}
 use Rattle.rules.specs.Effect.{Part, spelled, spelledAll}
@@ -45,7 +45,7 @@ all-fit (p ∷ ps) buf at h =
     let sum : at + length p + length (joined ps) ≡ at + length (p ++ joined ps) = omega (arith, long) in
     rw here (all-fit ps (sets buf at p) (at + length p) (rw length-sets (omega (arith, h, long))) ∙ rw (sets-append p buf at (joined ps), sum))
 
-wrote-emitted : {buf : List ℕ} {at : ℕ} (ps : List (List ℕ)) {buf₁ : List ℕ} {at₁ : ℕ} → Room buf at (joined ps) → Wrote buf at ps buf₁ at₁
+pub wrote-emitted : {buf : List ℕ} {at : ℕ} (ps : List (List ℕ)) {buf₁ : List ℕ} {at₁ : ℕ} → Room buf at (joined ps) → Wrote buf at ps buf₁ at₁
     → Emitted buf at (joined ps) buf₁ at₁
 wrote-emitted {buf} {at} ps room w =
     let e = whole w ∙ all-fit ps buf at room in

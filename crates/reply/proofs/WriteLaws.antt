@@ -11,12 +11,12 @@ use lib.Dec.{leb}
 use lib.ListN.{length, drop, getD, drop-of-length-le}
 use lib.Seq.{sets, sets-eq, length-sets, take-all, drop-cons}
 use Rattle.screen.specs.Words.{if_then_else_}
-use Rattle.screen.specs.Fields.{startsAt, opensAt, firstFrom, fieldEnd}
-use Rattle.screen.specs.Edits.{lies, canCopy, textOf, Copied}
+use Rattle.screen.specs.Fields.{opensAt, firstFrom, fieldEnd}
+use Rattle.edit.specs.Edits.{lies, canCopy, textOf, Copied}
 use Rattle.screen.proofs.WordLaws.{either, true-or-false, first-passes, first-past, first-above, first-below}
-use Rattle.screen.proofs.FieldLaws.{end-gt, end-le}
-use Rattle.screen.proofs.EditLaws.{text-length}
-use Rattle.screen.proofs.EditLaws.{copied-whole as copied-there}
+use Rattle.screen.proofs.FieldLaws.{end-gt, end-le, none-opens}
+use Rattle.edit.proofs.EditLaws.{text-length}
+use Rattle.edit.proofs.EditLaws.{copied-whole as copied-there}
 use Rattle.reply.specs.Written.{Buffer, buffer, wroteOne, wroteAll, Wrote}
 use Rattle.reply.specs.Pieces.{doubledPieces, textPiece, separatorPieces, fieldPieces}
 
@@ -182,12 +182,6 @@ module _ {buf : List ℕ} {at : ℕ} {chars attrs buf₁ : List ℕ} {at₁ : �
             (λ k a b. first-past (opensAt attrs) n cell (n - cell) k (omega arith) a (rw (← e) (omega arith))));
         opens = λ l. rw e (first-passes (opensAt attrs) n cell (n - cell) (rw (← e) l));
       }
-
--- no field opens within one
-none-opens : (attrs : List ℕ) (i k : ℕ) → i < k → k < fieldEnd attrs i → opensAt attrs k ≡ false
-unfolding opensAt fieldEnd
-none-opens attrs i k a b =
-    rw (first-past (startsAt attrs) (length attrs) (i + 1) (length attrs - (i + 1)) k (omega arith) (omega arith) (omega arith))
 
 -- the scan from its end goes on
 pub to-further : (attrs : List ℕ) {cell end next : ℕ} → cell < length attrs → end ≡ fieldEnd attrs cell

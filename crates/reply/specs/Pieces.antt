@@ -9,7 +9,7 @@ use Rattle.telnet.specs.Writer.{negotiation}
 use Rattle.screen.specs.Words.{if_then_else_}
 use Rattle.screen.specs.declared.cell.Place.{Place}
 use Rattle.screen.specs.Fields.{opensAt, fieldEnd}
-use Rattle.screen.specs.Edits.{lies, textOf}
+use Rattle.edit.specs.Edits.{lies, textOf}
 use Rattle.rules.specs.Number.{detOption, dataTransmit, fieldSeparator}
 use Rattle.decide.specs.declared.decision.Say.{Say}
 use Rattle.decide.specs.declared.decision.Say.the-variants.{Silent, Negotiation, Two, Three, Preface, Text, Fields}

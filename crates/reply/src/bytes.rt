@@ -2,7 +2,7 @@
 ghost use mathlib.Core.List.{[], _∷_};
 ghost use Rattle.reply.specs.Written.{Wrote};
 ghost use Rattle.reply.specs.Pieces.{doubledPieces};
-use screen::text::copy_text;
+use edit::text::copy_text;
 use telnet::code::IAC;
 
 pub(crate) fn put_bytes(reply: &mut [u8], at: usize, bytes: &[u8]) -> usize

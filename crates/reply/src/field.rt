@@ -8,12 +8,14 @@ ghost use Rattle.reply.specs.Written.{Wrote};
 ghost use Rattle.reply.specs.Pieces.{textPiece, separatorPieces, fieldPieces};
 use crate::bytes::put_bytes;
 use crate::message::put_message;
+use crate::single::are_singles;
+use crate::single::put_singles;
 use command::number::DET;
 use command::number::FIELD_SEPARATOR;
+use edit::text::copy_text;
 use screen::field::field_end;
 use screen::scan::Target;
 use screen::scan::first;
-use screen::text::copy_text;
 use telnet::code::IAC;
 use telnet::code::SB;
 use telnet::code::SE;
@@ -65,6 +67,12 @@ pub(crate) fn put_fields(chars: &[u8], attrs: &[u8], reply: &mut [u8], at: usize
     let mut first = true;
     let mut cell = field_from(attrs, 0);
     while cell < attrs.len() {
+        let singles = are_singles(chars.len(), attrs, reply.len(), cell, next, first);
+        if singles {
+            next = put_singles(chars, reply, cell, next);
+            cell += 32;
+            continue;
+        }
         let end = field_end(attrs, cell);
         next = put_field(chars, reply, cell, end, next, first);
         first = false;

@@ -8,8 +8,8 @@ use crate::field::put_fields;
 use crate::message::put_message;
 use command::number::DATA_TRANSMIT;
 use command::number::DET;
+use edit::text::copy_text;
 use screen::cell::Place;
-use screen::text::copy_text;
 
 // Before each transmission: the place of its first cell.
 pub(crate) fn put_preface(reply: &mut [u8], at: usize, place: Place) -> usize

@@ -7,11 +7,11 @@ use lib.Dec.{ltb}
 use lib.ListN.{length, getD, set, take, drop, length-set, take-append-drop}
 use Rattle.screen.specs.Words.{if_then_else_, inRange, tabulate}
 use Rattle.screen.specs.Attributes.{guardedAt}
-use Rattle.screen.specs.declared.edit.Shift.{Shift}
-use Rattle.screen.specs.declared.edit.Shift.the-variants.{Insertion, Deletion}
-use Rattle.screen.specs.Edits.{lies, deleted, inserted, shifted, onPart, erased}
+use Rattle.edit.specs.declared.range.Shift.{Shift}
+use Rattle.edit.specs.declared.range.Shift.the-variants.{Insertion, Deletion}
+use Rattle.edit.specs.Edits.{lies, deleted, inserted, shifted, onPart, erased}
 use Rattle.screen.proofs.WordLaws.{either, and-left, and-right, both}
-use Rattle.screen.proofs.EditLaws.{shifted-length, erased-length, onPart-length}
+use Rattle.edit.proofs.EditLaws.{shifted-length, erased-length, onPart-length}
 use Rattle.rules.specs.Session.{printable, allPrintable}
 use Rattle.rules.specs.Effect.{Change, put, erase, shift, changed, changedAll}
 -- the sentences of document 01 are checked first, so that a wrong rule is refused there

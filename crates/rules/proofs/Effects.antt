@@ -11,13 +11,13 @@ use Rattle.telnet.specs.declared.Verb.the-variants.{Will, Wont, Do, Dont}
 use Rattle.telnet.specs.declared.Event.{Event}
 use Rattle.telnet.specs.declared.Event.the-variants.{Nothing, Data, Negotiation, Begin, Sub, End, EndBare, Lost}
 use Rattle.telnet.specs.Writer.{doubled, subnegotiation, negotiation}
-use Rattle.screen.specs.declared.edit.Shift.{Shift}
-use Rattle.screen.specs.declared.edit.Shift.the-variants.{Deletion}
+use Rattle.edit.specs.declared.range.Shift.{Shift}
+use Rattle.edit.specs.declared.range.Shift.the-variants.{Deletion}
 use Rattle.screen.specs.declared.cell.Place.{Place}
 use Rattle.screen.specs.Words.{if_then_else_, between}
 use Rattle.screen.specs.Cells.{placeOf}
 use Rattle.screen.proofs.WordLaws.{either}
-use Rattle.screen.proofs.EditLaws.{formatted-length}
+use Rattle.edit.proofs.EditLaws.{formatted-length}
 use Rattle.rules.specs.declared.Held.{Held}
 use Rattle.rules.specs.declared.Facility.{Facility}
 use Rattle.rules.specs.declared.Facility.the-variants.{Editing, Erasing, Transmitting, Formatting}

@@ -12,7 +12,7 @@ use Rattle.telnet.specs.Writer.{doubled, subnegotiation}
 use Rattle.screen.specs.Words.{firstOf}
 use Rattle.screen.specs.Attributes.{protectedAt}
 use Rattle.screen.specs.Fields.{startsAt, opensAt, fieldEnd}
-use Rattle.screen.specs.Edits.{textOf}
+use Rattle.edit.specs.Edits.{textOf}
 use Rattle.screen.proofs.WordLaws.{either, true-or-false}
 use Rattle.screen.proofs.FieldLaws.{end-gt}
 use Rattle.rules.specs.Session.{replyRoom, freshFrame}

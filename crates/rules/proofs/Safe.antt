@@ -11,9 +11,9 @@ use lib.ListN.{length, getD, set, length-set, length-take, length-drop}
 use lib.Seq.{getD-set-same, getD-set-other, getD-take, getD-drop, ext-getD}
 use Rattle.screen.specs.Words.{inRange}
 use Rattle.screen.specs.Attributes.{protectedAt}
-use Rattle.screen.specs.Edits.{shifted, lies, onPart, erased, textOf}
+use Rattle.edit.specs.Edits.{shifted, lies, onPart, erased, textOf}
 use Rattle.screen.proofs.WordLaws.{true-or-false, not-both, and-right, getD-within}
-use Rattle.screen.proofs.EditLaws.{shifted-length, erased-length, erased-cell, onPart-none, onPart-length, onPart-before, onPart-inside, onPart-after}
+use Rattle.edit.proofs.EditLaws.{shifted-length, erased-length, erased-cell, onPart-none, onPart-length, onPart-before, onPart-inside, onPart-after}
 use Rattle.rules.specs.Effect.{Change, put, erase, shift, changed, changedAll, Part, bytes, text, spelled, spelledAll}
 use Rattle.rules.specs.Noninterference.{Alike, Kept}
 use Rattle.rules.proofs.All.{All}

@@ -6,7 +6,7 @@ use lib.Dec.{leb, ltb, eqb}
 use lib.ListN.{getD}
 use Rattle.telnet.specs.Reader.{verbCode}
 use Rattle.telnet.specs.declared.Verb.the-variants.{Will, Do, Dont}
-use Rattle.screen.specs.declared.edit.Shift.the-variants.{Insertion, Deletion}
+use Rattle.edit.specs.declared.range.Shift.the-variants.{Insertion, Deletion}
 use Rattle.screen.specs.declared.cell.Place.{Place}
 use Rattle.screen.specs.Words.{if_then_else_, between}
 use Rattle.screen.specs.Cells.{place, onScreen}

@@ -5,8 +5,8 @@ use mathlib.Core.List.{List, [], _∷_, _++_}
 use Prim.Native.Nat.{ℕ}
 use lib.ListN.{set}
 use Rattle.telnet.specs.Writer.{subnegotiation}
-use Rattle.screen.specs.declared.edit.Shift.{Shift}
-use Rattle.screen.specs.Edits.{shifted, onPart, erased, textOf}
+use Rattle.edit.specs.declared.range.Shift.{Shift}
+use Rattle.edit.specs.Edits.{shifted, onPart, erased, textOf}
 use Rattle.rules.specs.declared.Held.{Held}
 use Rattle.rules.specs.Session.{View}
 use Rattle.rules.specs.Number.{detOption}

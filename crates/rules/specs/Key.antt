@@ -3,7 +3,7 @@ use mathlib.Core.Bool.{Bool, true, false, not, _||_}
 use mathlib.Core.List.{List, [], _∷_}
 use Prim.Native.Nat.{ℕ, _-_}
 use lib.Dec.{eqb}
-use Rattle.screen.specs.declared.edit.Shift.the-variants.{Deletion}
+use Rattle.edit.specs.declared.range.Shift.the-variants.{Deletion}
 use Rattle.screen.specs.Words.{if_then_else_, between}
 use Rattle.screen.specs.Attributes.{attributeAt}
 use Rattle.screen.specs.Classes.{takes}

@@ -8,11 +8,11 @@ use Rattle.telnet.specs.declared.Verb.{Verb}
 use Rattle.telnet.specs.declared.Verb.the-variants.{Will, Wont, Do, Dont}
 use Rattle.telnet.specs.Reader.{verbCode}
 use Rattle.screen.specs.declared.cell.Place.{Place}
-use Rattle.screen.specs.declared.edit.Shift.{Shift}
+use Rattle.edit.specs.declared.range.Shift.{Shift}
 use Rattle.screen.specs.Words.{if_then_else_}
 use Rattle.screen.specs.Cells.{placeOf, lineStart, lineEnd}
 use Rattle.screen.specs.Fields.{opensAt, fieldStart, fieldEnd, spanEnd}
-use Rattle.screen.specs.Edits.{formatted}
+use Rattle.edit.specs.Edits.{formatted}
 use Rattle.rules.specs.declared.Held.{Held}
 use Rattle.rules.specs.declared.Destination.the-variants.{Corner, LineStart, NextLine, FirstField}
 use Rattle.rules.specs.declared.Area.{Area}

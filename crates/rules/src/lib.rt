@@ -1,7 +1,7 @@
 // The types of the terminal: the session, what its operations answer, commands and keys by meaning.
 // The rules of document 01 are definitions over them, in specs/; this crate has no code.
+use edit::range::Shift;
 use screen::cell::Place;
-use screen::edit::Shift;
 use telnet::Phase;
 
 // The first bytes of a subnegotiation after its option byte, and how many they are: the count stops at 6.

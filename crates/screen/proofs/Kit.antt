@@ -1,14 +1,11 @@
 -- What the proofs of this crate take from the kit, under one name.
 pub use mathlib.Core.Path.{_≡_, refl, sym, ap, _∙_}
-pub use mathlib.Core.Logic.{⊎-elim}
-pub use mathlib.Core.Bool.{Bool, true, false, not, _&&_}
+pub use mathlib.Core.Bool.{Bool, true, false, not}
 pub use mathlib.Core.List.{List}
 pub use Prim.Native.Nat.{ℕ, _+_, _-_, _*_, _/_, _%_, _≤_, _<_, min}
 pub use native.Mathlib.Nat.{add-assoc, add-zero, mul-le-mul-right}
-pub use native.Mathlib.Numerals.{add-one}
 pub use native.Mathlib.Omega.{arith}
 pub use lib.Dec.{eqb}
-pub use lib.ListN.{length, getD, length-set, length-drop, List·getD-eq-default}
-pub use lib.Seq.{paste, paste-zero, paste-suc}
+pub use lib.ListN.{length, List·getD-eq-default}
 pub use borrow.Author.Needs.{needs}
-pub use borrow.Author.Tests.{eq-eqb, ne-eqb, lt-ltb, le-ltb, le-leb, lt-leb, not-true, not-false}
+pub use borrow.Author.Tests.{eq-eqb, ne-eqb, lt-ltb, le-ltb, not-true, not-false}

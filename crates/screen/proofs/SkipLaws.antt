@@ -1,19 +1,19 @@
 -- Laws of scans that go past many cells at once.
-use mathlib.Core.Path.{_≡_, refl, sym, _∙_}
-use mathlib.Core.Bool.{Bool, true, false, not, _&&_, _||_}
+use mathlib.Core.Path.{_≡_, refl, _∙_}
+use mathlib.Core.Bool.{Bool, true, false, not, _||_}
 use mathlib.Core.List.{List}
 use Prim.Native.Nat.{ℕ, _+_, _-_, _≤_, _<_}
 use native.Mathlib.Omega.{arith}
 use lib.Dec.{eqb}
 use lib.ListN.{length, getD}
 use Rattle.screen.specs.Words.{firstOf, lastOf}
-use Rattle.screen.specs.Attributes.{protection, attributeAt, protectedAt}
+use Rattle.screen.specs.Attributes.{protection, protectedAt}
 use Rattle.screen.specs.Fields.{startsAt, opensAt}
 use Rattle.screen.specs.Scans.{isTarget}
 use Rattle.screen.specs.inner.Skips.{NoneIn, passesProtected, passesAlike, passed}
 use Rattle.screen.specs.declared.scan.Target.{Target}
 use Rattle.screen.specs.declared.scan.Target.the-variants.{FieldStart, UnprotectedStart, Open}
-use Rattle.screen.proofs.WordLaws.{less-or-not, true-or-false, not-both, and-left, and-right, and-false, getD-within, first-skips, last-skips}
+use Rattle.screen.proofs.WordLaws.{less-or-not, not-both, and-false, getD-within, first-skips, last-skips}
 use Rattle.screen.proofs.FieldLaws.{starts-after}
 
 -- a choice between two that holds

@@ -3,6 +3,5 @@ pub mod Cells
 pub mod Attributes
 pub mod Fields
 pub mod Scans
-pub mod Edits
 pub mod Classes
 pub mod inner

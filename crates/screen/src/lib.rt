@@ -1,13 +1,11 @@
-// The screen of a data entry terminal: cells, fields and edits, over slices and numbers. It knows nothing of Telnet.
+// The screen of a data entry terminal: cells and fields, over slices and numbers. It knows nothing of Telnet.
 // Nothing here asks anything of its caller: each function says what it does for every input.
 pub mod attribute;
 mod block;
 pub mod cell;
 pub mod class;
-pub mod edit;
 pub mod field;
 pub mod next_open;
-mod number;
+pub mod number;
 pub mod scan;
 pub mod start;
-pub mod text;

@@ -11,9 +11,9 @@ use lib.ListN.{length, getD, set, drop, length-drop}
 use lib.Seq.{paste, paste-zero, paste-suc, getD-drop, set-set}
 use Rattle.screen.specs.Attributes.{protection, protectedAt, guardedAt}
 use Rattle.screen.specs.Cells.{place, cellOf}
-use Rattle.screen.specs.Edits.{lies, Copied}
+use Rattle.edit.specs.Edits.{lies, Copied}
 use Rattle.screen.proofs.WordLaws.{true-or-false, less-or-not, both, getD-within}
-use Rattle.screen.proofs.EditLaws.{copied-whole}
+use Rattle.edit.proofs.EditLaws.{copied-whole}
 use Rattle.rules.specs.declared.Frame.{Frame}
 use Rattle.rules.specs.Session.{View, printable, placed, screen, view}
 use Rattle.rules.specs.Cursor.{cursorGuarded, destination, nextCell}

@@ -20,10 +20,10 @@ use command::frame::moved;
 use decide::text::Fate;
 use decide::text::control;
 use decide::text::write_host;
+use edit::text::copy_text;
 use rules::Frame;
 use screen::cell::Column;
 use screen::cell::Place;
-use screen::text::copy_text;
 
 // A cell takes a character, where there is such a cell.
 pub fn set_cell(chars: &mut [u8], cell: usize, byte: u8)

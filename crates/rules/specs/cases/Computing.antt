@@ -6,7 +6,7 @@ use Rattle.screen.specs.Words.{firstOf, lastOf, tabulate}
 use Rattle.screen.specs.Attributes.{protectedAt}
 use Rattle.screen.specs.Fields.{startsAt, opensAt, fieldStart, fieldEnd, spanEnd}
 use Rattle.screen.specs.Scans.{nextOpen}
-use Rattle.screen.specs.Edits.{deleted, inserted, shifted, onPart, erased, formatted}
+use Rattle.edit.specs.Edits.{deleted, inserted, shifted, onPart, erased, formatted}
 use Rattle.screen.specs.Classes.{takes}
 use Rattle.rules.specs.Session.{allPrintable, sessionOk}
 use Rattle.rules.specs.Number.{ownMap}

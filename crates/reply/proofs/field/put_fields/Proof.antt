@@ -4,6 +4,7 @@ use native.Mathlib.Omega.{arith}
 use lib.ListN.{length}
 use borrow.Author.Needs.{needs}
 use Rattle.reply.proofs.WriteLaws.{WritingTo, writing-length, fields-start, fields-all, to-next, to-further, to-more}
+use Rattle.reply.proofs.SingleLaws.{to-after}
 use Rattle.reply.proofs.field.put_fields.Statement.{statement}
 use Rattle.reply.proofs.field.put_fields.Tie as tie
 
@@ -21,11 +22,21 @@ put-fields-spec =
     μ-loop
     (search needs)
     (λ c. to-next fields-start (omega arith) (c .field-from .ensures))
+    (search needs)
+    (λ c κs. let r = c .before .before .are-singles .ensures (c .before .if1 .taken) in (r .characters, r .fit))
+    (λ c. let r = c .before .before .before .before .before in
+    omega (arith, (r .are-singles .ensures (c .before .before .before .before .if1 .taken)) .cells))
+    (λ c. omega (arith, c .before .before .before .before .before .before .loop-test .taken))
+    (λ c. let p = c .before .before in
+    let r = p .before .before .before in
+    to-after (r .before .before .loop .inv) (r .are-singles .ensures (p .before .before .if1 .taken)) (p .put-singles .ensures))
     (search needs) (search needs) (search needs)
     (λ c. let e = c .before .before .before .before .before in
-    omega (arith, to-further _ (e .before .loop-test .taken) (e .field-end .ensures) (c .field-from2 .ensures), e .before .loop-test .taken))
+    let t = e .before .before .before .loop-test .taken in
+    omega (arith, to-further _ t (e .field-end .ensures) (c .field-from2 .ensures), t))
     (λ c. let p = c .before .before .before in
     let e = p .before .before in
-    to-more (e .before .before .loop .inv) (e .before .loop-test .taken) (e .field-end .ensures) (p .put-field .ensures) (c .field-from2 .ensures))
+    let t = e .before .before .before in
+    to-more (t .before .loop .inv) (t .loop-test .taken) (e .field-end .ensures) (p .put-field .ensures) (c .field-from2 .ensures))
     (λ c. writing-length (c .before .loop .inv .fields .writing))
     (λ c. fields-all (c .before .loop .inv .fields) (c .loop-test .left)))

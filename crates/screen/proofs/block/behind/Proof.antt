@@ -1,5 +1,5 @@
 -- `behind` meets its contract: block before block.
-use Rattle.screen.proofs.Kit.{_≡_, _+_, _-_, _≤_, _<_, arith, length, needs, not-false}
+use Rattle.screen.proofs.Kit.{_≡_, _+_, _-_, _≤_, arith, length, needs, not-false}
 use Rattle.screen.specs.inner.Skips.{NoneIn}
 use Rattle.screen.proofs.SkipLaws.{none-there, none-then}
 use Rattle.screen.proofs.block.behind.Statement.{statement}

@@ -1,6 +1,6 @@
 -- `past_guarded` meets its contract: a cell of the screen, or the one after its last, has a place.
-use Rattle.screen.proofs.Kit.{_≡_, sym, _∙_, Bool, List, ℕ, _+_, _*_, _≤_, _<_, arith, length, needs}
-use Rattle.screen.specs.Cells.{cellOf, placeOf, placeOrOrigin}
+use Rattle.screen.proofs.Kit.{_≡_, _∙_, Bool, List, ℕ, _+_, _*_, _≤_, _<_, arith, length, needs}
+use Rattle.screen.specs.Cells.{cellOf, placeOrOrigin}
 use Rattle.screen.specs.inner.Skips.{NoneIn, PastGuarded}
 use Rattle.screen.specs.declared.cell.Place.{Place}
 use Rattle.screen.specs.declared.scan.Target.the-variants.{Open}

@@ -1,5 +1,5 @@
 -- `first_around` meets its contract: after a scan to the end that found nothing only the cells before its start are left.
-use Rattle.screen.proofs.Kit.{_∙_, _≤_, _<_, length, needs}
+use Rattle.screen.proofs.Kit.{_∙_, needs}
 use Rattle.screen.proofs.WordLaws.{around-found, around-left}
 use Rattle.screen.proofs.scan.first_around.Statement.{statement}
 use Rattle.screen.proofs.scan.first_around.Tie as tie

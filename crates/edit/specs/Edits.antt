@@ -1,0 +1,69 @@
+-- Document 01, "Subcommands": what becomes of the characters and attribute bytes of a range of cells, from `from` up to `end`,
+-- that one excluded.
+use mathlib.Core.Path.{_≡_}
+use mathlib.Core.Bool.{Bool, not, _&&_}
+use mathlib.Core.List.{List, _++_}
+use Prim.Native.Nat.{ℕ, _+_, _-_}
+use lib.Dec.{leb, ltb}
+use lib.ListN.{length, getD, take, drop}
+use lib.Seq.{paste}
+use Rattle.edit.specs.declared.range.Shift.{Shift}
+use Rattle.edit.specs.declared.range.Shift.the-variants.{Insertion, Deletion}
+use Rattle.screen.specs.Words.{if_then_else_, inRange, tabulate}
+use Rattle.screen.specs.Attributes.{attributeAt, guardedAt}
+
+-- 16, char delete: the part moves `by` cells towards its start, and spaces come in at its end
+abbrev pub deletedCell : ℕ → List ℕ → ℕ → ℕ
+deletedCell by part i = getD part (i + by) 32
+
+unfoldable pub deleted : ℕ → List ℕ → List ℕ
+deleted by part = tabulate (deletedCell by part) 0 (length part)
+
+-- 15, char insert: the part moves `by` cells towards its end, its last characters are lost, and spaces come in at its start
+abbrev pub insertedCell : ℕ → List ℕ → ℕ → ℕ
+insertedCell by part i = if ltb i by then 32 else getD part (i - by) 32
+
+unfoldable pub inserted : ℕ → List ℕ → List ℕ
+inserted by part = tabulate (insertedCell by part) 0 (length part)
+
+-- the one or the other
+unfoldable pub shifted : Shift → ℕ → List ℕ → List ℕ
+shifted Insertion by part = inserted by part
+shifted Deletion by part = deleted by part
+
+-- the range lies in the list
+abbrev pub lies : ℕ → ℕ → List ℕ → Bool
+lies from end xs = leb from end && leb end (length xs)
+
+-- The characters, their part in the range changed and nothing outside it. Nothing happens where the range is not in the list.
+unfoldable pub onPart : ℕ → ℕ → (List ℕ → List ℕ) → List ℕ → List ℕ
+onPart from end edit chars =
+    if lies from end chars then take from chars ++ (edit (take (end - from) (drop from chars)) ++ drop end chars) else chars
+
+-- 29 to 35: spaces in the cells of the range that are not guarded. (29 erases as while suppressed, 35 as while in effect.)
+abbrev pub erasedCell : Bool → List ℕ → List ℕ → ℕ → ℕ → ℕ → ℕ
+erasedCell suppressed chars attrs from end i =
+    if inRange from end i && not (guardedAt suppressed attrs i) then 32 else getD chars i 32
+
+unfoldable pub erased : Bool → List ℕ → List ℕ → ℕ → ℕ → List ℕ
+erased suppressed chars attrs from end = tabulate (erasedCell suppressed chars attrs from end) 0 (length chars)
+
+-- 36, format data: the cells of the range take the attribute byte
+abbrev pub formattedCell : ℕ → ℕ → ℕ → List ℕ → ℕ → ℕ
+formattedCell from end attr attrs i = if inRange from end i then attr else attributeAt attrs i
+
+unfoldable pub formatted : ℕ → ℕ → ℕ → List ℕ → List ℕ
+formatted from end attr attrs = tabulate (formattedCell from end attr attrs) 0 (length attrs)
+
+-- 20 to 26: the text of the cells of the range, as it stands in a reply
+abbrev pub textOf : ℕ → ℕ → List ℕ → List ℕ
+textOf from end chars = take (end - from) (drop from chars)
+
+-- the range lies in the characters, and its text fits into the reply from `at` on
+abbrev pub canCopy : List ℕ → List ℕ → ℕ → ℕ → ℕ → Bool
+canCopy chars reply from end at = lies from end chars && leb (at + (end - from)) (length reply)
+
+-- The reply with that text from `at` on, and the place after it. Nothing happens where it does not fit.
+pub record Copied (chars reply : List ℕ) (from end at : ℕ) (reply′ : List ℕ) (at′ : ℕ) : Type 0 where
+  pub bytes : reply′ ≡ (if canCopy chars reply from end at then paste reply at (drop from chars) (end - from) else reply)
+  pub next : at′ ≡ (if canCopy chars reply from end at then at + (end - from) else at)

@@ -1,0 +1,4 @@
+// Edits of the screen's bytes, over slices and numbers: a range of cells is shifted, erased, formatted, copied into a reply.
+// Nothing here asks anything of its caller: each function says what it does for every input.
+pub mod range;
+pub mod text;

@@ -13,7 +13,9 @@ none-in-block-spec =
     (λ attrs cell protected alike none₀ i₀ none i. 32 - i)
     (search needs) (search needs)
     (λ c. (omega arith, λ e. passed-none))
-    (search needs) (search needs) (search needs) (search needs) (search needs) (search needs) (search needs) (search needs) (search needs)
+    (λ c. omega arith) (λ c. omega arith) (λ c. omega arith) (λ c. omega arith) (λ c. omega arith)
+    (search needs) (search needs)
+    (λ c. omega arith) (λ c. omega arith)
     (λ c. let l = c .before .before .before .before .before .loop in
     let one = c .before .is-passed in (
       search needs,

@@ -31,6 +31,7 @@ use screen::cell::place_of;
 use screen::next_open::next_open;
 use screen::scan::Target;
 use screen::scan::first;
+use screen::scan::first_around;
 use screen::scan::last;
 
 fn at(x: u8, y: u8) -> Place
@@ -158,8 +159,7 @@ fn next_field_cell(frame: Frame, attrs: &[u8]) -> usize
     ensures { λ r. ⌜ r ≡ nextFieldCell (seen frame (attrs .entry)) ⌝ }
 {
     let cell = cursor_cell(frame);
-    let around = first_field_cell(frame, attrs, cell);
-    first(attrs, Target::UnprotectedStart, cell + 1, around)
+    first_around(attrs, Target::UnprotectedStart, cell + 1, cell)
 }
 
 fn previous_open_cell(frame: Frame, attrs: &[u8]) -> usize

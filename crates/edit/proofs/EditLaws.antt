@@ -1,20 +1,22 @@
 -- Laws of the edits: what each keeps, and what stands in each cell afterwards.
 use mathlib.Core.Path.{_≡_, refl, sym, _∙_}
-use mathlib.Core.Bool.{Bool, true, false, _&&_}
+use mathlib.Core.Bool.{Bool, true, false, not, _&&_}
 use mathlib.Core.List.{List, _++_}
-use Prim.Native.Nat.{ℕ, _+_, _-_, _≤_, _<_}
+use Prim.Native.Nat.{ℕ, _+_, _-_, _≤_, _<_, min}
 use native.Mathlib.Omega.{arith}
 use borrow.Author.Tests.{ltb-true, ltb-false, leb-true, leb-false, lt-ltb, le-ltb, le-leb, lt-leb}
 use borrow.Rule.Slice.PartMut.{putMid, post-is}
-use lib.Dec.{leb, ltb}
+use lib.Dec.{leb, ltb, eqb}
 use lib.ListN.{length, getD, take, drop, replicate, length-drop, length-replicate, getD-replicate, List·getD-eq-default}
 use lib.Seq.{paste, length-take-le, getD-take, getD-drop}
-use Rattle.screen.specs.Words.{if_then_else_}
+use Rattle.screen.specs.Words.{if_then_else_, inRange}
+use Rattle.screen.specs.Attributes.{protection, protectedAt, guardedAt}
 use Rattle.edit.specs.declared.range.Shift.{Shift}
 use Rattle.edit.specs.declared.range.Shift.the-variants.{Insertion, Deletion}
 use Rattle.edit.specs.Edits.{deleted, deletedCell, inserted, insertedCell, shifted, lies, onPart, erased, erasedCell, formatted, formattedCell, textOf, canCopy, Copied}
-use Rattle.screen.proofs.WordLaws.{either, true-or-false, and-left, and-right, tabulate-length, getD-tabulate, tabulated}
-use Rattle.edit.proofs.ListLaws.{in-range, Replaces, replaced-length, replaced-before, replaced-inside, replaced-after}
+use Rattle.screen.proofs.WordLaws.{either, true-or-false, and-left, and-right, and-false, getD-within, tabulate-length, getD-tabulate, tabulated}
+use Rattle.screen.proofs.FieldLaws.{open-within}
+use Rattle.edit.proofs.ListLaws.{in-range, after-range, Replaces, replaced-length, replaced-before, replaced-inside, replaced-after}
 
 -- ---- each edit keeps the length, and its cells are what the definition says, whatever is read beyond the end
 
@@ -66,6 +68,30 @@ module _ (from end attr : ℕ) (attrs : List ℕ) where
   pub formatted-cell : (i d : ℕ) → i < length attrs → getD (formatted from end attr attrs) i d ≡ formattedCell from end attr attrs i
   unfolding formatted
   formatted-cell = getD-tabulate (formattedCell from end attr attrs) (length attrs)
+
+-- with nothing guarded an erasure stores a space in every cell of the range
+pub erased-all : (chars attrs : List ℕ) (from end : ℕ) → formatted from end 32 chars ≡ erased true chars attrs from end
+unfolding erased
+erased-all chars attrs from end =
+    tabulated (erasedCell true chars attrs from end) (formatted from end 32 chars) (length chars) 0 (formatted-length from end 32 chars)
+    (λ k h. formatted-cell from end 32 chars k 0 h
+    ∙ true-or-false (inRange from end k) (λ e. rw e) (λ e. rw e (getD-within chars k 8 32 h)))
+
+module _ (attrs : List ℕ) (from end i : ℕ) where
+  -- a cell of the range, by the attribute byte that is read
+  pub erasing : (x : ℕ) → from ≤ i → i < end → i < length attrs
+      → (if eqb (protection (getD attrs i 0)) 1 then x else 32) ≡ (if inRange from end i && not (guardedAt false attrs i) then 32 else x)
+  unfolding protectedAt
+  erasing x a b c =
+      rw (in-range from end i a b, getD-within attrs i 8 0 c)
+      (true-or-false (eqb (protection (getD attrs i 0)) 1) (λ e. rw e) (λ e. rw e))
+
+  -- a cell after the range, or without an attribute byte
+  pub not-erased : min end (length attrs) ≤ i → (inRange from end i && not (guardedAt false attrs i)) ≡ false
+  not-erased h =
+      true-or-false (protectedAt attrs i)
+      (λ e. and-false (inRange from end i) (not (protectedAt attrs i)) (rw e))
+      (λ u. rw (after-range from end i (omega (arith, open-within attrs i u))))
 
 -- ---- a range that lies in a list, and its text
 

@@ -7,7 +7,7 @@ use native.Mathlib.Omega.{arith}
 use borrow.Author.Tests.{eqb-true, eqb-false, ltb-true, ltb-false, lt-ltb, le-ltb, le-leb, lt-leb}
 use lib.Dec.{eqb, ltb, leb}
 use lib.ListN.{length, getD, set, take, drop, length-set, length-append, length-drop, List·getD-append, List·getD-eq-default}
-use lib.Seq.{getD-set-same, getD-set-other, set-getD, getD-append-add, getD-take, getD-drop, length-take-le}
+use lib.Seq.{getD-set-same, getD-set-other, getD-append-add, getD-take, getD-drop, length-take-le}
 use Rattle.screen.specs.Words.{if_then_else_, inRange, tabulate}
 use Rattle.screen.proofs.WordLaws.{true-or-false, and-false, getD-within, tabulated}
 
@@ -50,10 +50,6 @@ module _ {f g : ℕ → ℕ} {n i : ℕ} {s : List ℕ} (m : Seam f g n i s) whe
   pub seam-down : (v : ℕ) → 0 < i → i ≤ n → v ≡ g (i - 1) → Seam f g n (i - 1) (set s (i - 1) v)
   seam-down v h k e = seam-set (i - 1) (i - 1) v (omega arith) (omega arith) (λ a. absurd (omega arith)) (λ a. e)
 
-  -- an element that is right already
-  seam-pass : i < n → g i ≡ f i → Seam f g n (i + 1) s
-  seam-pass h e = rw (set-getD s i 0) at (seam-up (getD s i 0) h (m .above i (omega arith) h ∙ e))
-
   -- the whole is t of every place, where t agrees with f below the seam and with g above it
   pub seam-all : (t : ℕ → ℕ) → ((k : ℕ) → k < i → k < n → f k ≡ t k) → ((k : ℕ) → i ≤ k → k < n → g k ≡ t k) → s ≡ tabulate t 0 n
   seam-all t p q =
@@ -83,8 +79,11 @@ module _ {test : ℕ → Bool} {v d i : ℕ} {s₀ s : List ℕ} (m : Storing te
   pub storing-hit : i < length s₀ → test i ≡ true → Storing test v d s₀ (i + 1) (set s i v)
   storing-hit h e = record { cells = seam-up (m .cells) v h (rw e) }
 
-  pub storing-miss : i < length s₀ → test i ≡ false → Storing test v d s₀ (i + 1) s
-  storing-miss h e = record { cells = seam-pass (m .cells) h (kept s₀ i d v (test i) h e) }
+  -- where an element that does not pass is stored as it stood
+  pub storing-either : i < length s₀ → {w : ℕ} → w ≡ (if test i then v else getD s i 0) → Storing test v d s₀ (i + 1) (set s i w)
+  storing-either h {w} e = record {
+    cells = seam-up (m .cells) w h (e ∙ ap (λ r. if test i then v else r) (m .cells .above i (omega arith) h ∙ getD-within s₀ i 0 d h));
+  }
 
   -- no place that is left passes
   pub storing-end : ((k : ℕ) → i ≤ k → k < length s₀ → test k ≡ false) → s ≡ tabulate (λ k. if test k then v else getD s₀ k d) 0 (length s₀)

@@ -1,11 +1,12 @@
 // What becomes of the characters and attribute bytes of a range of cells, from `from` up to `end`.
 ghost use mathlib.Core.Path.{_≡_};
-ghost use mathlib.Core.Bool.{_&&_};
+ghost use mathlib.Core.Bool.{false, _&&_};
 ghost use Prim.Native.Nat.{_+_, _-_, _<_};
 ghost use lib.Dec.{leb};
 ghost use lib.ListN.{length};
+ghost use Rattle.screen.specs.Words.{if_then_else_};
 ghost use Rattle.edit.specs.Edits.{deletedCell, insertedCell, deleted, inserted, shifted, onPart, erased, formatted};
-use screen::attribute::is_guarded;
+use screen::attribute::protection;
 use screen::number::least;
 
 // What is done at the start of a range: the rest of it moves.
@@ -83,21 +84,6 @@ pub fn shift_range(chars: &mut [u8], from: usize, end: usize, shift: Shift, by: 
     }
 }
 
-// Spaces in the cells of the range that are not guarded.
-pub fn erase(suppressed: bool, chars: &mut [u8], attrs: &[u8], from: usize, end: usize)
-    ensures { λ _. ⌜ now (chars .exit) ≡ erased suppressed (now (chars .entry)) (now (attrs .entry)) from end ⌝ }
-{
-    let stop = least(end, chars.len());
-    let mut i = from;
-    while i < stop {
-        let guarded = is_guarded(suppressed, attrs, i);
-        if !guarded {
-            chars[i] = 32;
-        }
-        i += 1;
-    }
-}
-
 // The attribute byte in every cell of the range.
 pub fn format(attrs: &mut [u8], from: usize, end: usize, attr: u8)
     ensures { λ _. ⌜ now (attrs .exit) ≡ formatted from end attr (now (attrs .entry)) ⌝ }
@@ -107,5 +93,35 @@ pub fn format(attrs: &mut [u8], from: usize, end: usize, attr: u8)
     while i < stop {
         attrs[i] = attr;
         i += 1;
+    }
+}
+
+// What a cell then holds.
+fn kept(protected: bool, byte: u8) -> u8
+    ensures { λ r. ⌜ r ≡ (if protected then byte else 32) ⌝ }
+{
+    if protected { byte } else { 32 }
+}
+
+// Spaces in the cells of the range that are not protected. The loop stores into each cell, so that the compiler does sixteen at once.
+fn erase_unprotected(chars: &mut [u8], attrs: &[u8], from: usize, end: usize)
+    ensures { λ _. ⌜ now (chars .exit) ≡ erased false (now (chars .entry)) (now (attrs .entry)) from end ⌝ }
+{
+    let stop = least(end, least(chars.len(), attrs.len()));
+    let mut i = from;
+    while i < stop {
+        chars[i] = kept(protection(attrs[i]) == 1, chars[i]);
+        i += 1;
+    }
+}
+
+// Spaces in the cells of the range that are not guarded.
+pub fn erase(suppressed: bool, chars: &mut [u8], attrs: &[u8], from: usize, end: usize)
+    ensures { λ _. ⌜ now (chars .exit) ≡ erased suppressed (now (chars .entry)) (now (attrs .entry)) from end ⌝ }
+{
+    if suppressed {
+        format(chars, from, end, 32);
+    } else {
+        erase_unprotected(chars, attrs, from, end);
     }
 }

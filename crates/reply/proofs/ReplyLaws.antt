@@ -25,7 +25,7 @@ use Rattle.reply.specs.Written.{Buffer, buffer, wroteAll, Wrote}
 use Rattle.rules.specs.Number.{detOption, dataTransmit, fieldSeparator}
 use Rattle.reply.specs.Pieces.{doubledPieces, messagePieces, textPiece, fieldPieces, sayPieces}
 use Rattle.reply.specs.inner.Reply.{Room, Emitted, Sayable}
-use Rattle.reply.proofs.WriteLaws.{whole}
+use Rattle.reply.proofs.WriteLaws.{whole, wrote-by}
 
 abbrev pub joined : List (List ℕ) → List ℕ
 joined [] = []
@@ -45,11 +45,16 @@ all-fit (p ∷ ps) buf at h =
     let sum : at + length p + length (joined ps) ≡ at + length (p ++ joined ps) = omega (arith, long) in
     rw here (all-fit ps (sets buf at p) (at + length p) (rw length-sets (omega (arith, h, long))) ∙ rw (sets-append p buf at (joined ps), sum))
 
-wrote-emitted : {buf : List ℕ} {at : ℕ} (ps : List (List ℕ)) {buf₁ : List ℕ} {at₁ : ℕ} → Room buf at (joined ps) → Wrote buf at ps buf₁ at₁
+pub wrote-emitted : {buf : List ℕ} {at : ℕ} (ps : List (List ℕ)) {buf₁ : List ℕ} {at₁ : ℕ} → Room buf at (joined ps) → Wrote buf at ps buf₁ at₁
     → Emitted buf at (joined ps) buf₁ at₁
 wrote-emitted {buf} {at} ps room w =
     let e = whole w ∙ all-fit ps buf at room in
     record { next = ap (λ (b : Buffer). b .next) e; stored = ap (λ (b : Buffer). b .bytes) e }
+
+-- where there is room, other pieces with the same bytes
+pub wrote-as : {buf : List ℕ} {at : ℕ} (ps qs : List (List ℕ)) {buf₁ : List ℕ} {at₁ : ℕ} → joined ps ≡ joined qs → Room buf at (joined qs)
+    → Wrote buf at ps buf₁ at₁ → Wrote buf at qs buf₁ at₁
+wrote-as {buf} {at} ps qs e room w = wrote-by (whole w ∙ all-fit ps buf at (rw e room) ∙ rw e (sym (all-fit qs buf at room)))
 
 joined-append : (ps qs : List (List ℕ)) → joined (ps ++ qs) ≡ joined ps ++ joined qs
 joined-append [] qs = refl

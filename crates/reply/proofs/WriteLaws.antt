@@ -2,7 +2,7 @@
 use mathlib.Core.Path.{_≡_, refl, sym, ap, _∙_}
 use mathlib.Core.Bool.{Bool, true, false}
 use mathlib.Core.List.{List, [], _∷_, _++_, append-assoc, append-nil}
-use Prim.Native.Nat.{ℕ, suc, _+_, _-_, _≤_, _<_}
+use Prim.Native.Nat.{ℕ, zero, suc, _+_, _-_, _≤_, _<_}
 use native.Mathlib.Nat.{add-zero, sub-zero}
 use native.Mathlib.Numerals.{add-one}
 use native.Mathlib.Omega.{arith}
@@ -11,9 +11,10 @@ use lib.Dec.{leb}
 use lib.ListN.{length, drop, getD, drop-of-length-le}
 use lib.Seq.{sets, sets-eq, length-sets, take-all, drop-cons}
 use Rattle.screen.specs.Words.{if_then_else_}
-use Rattle.screen.specs.Fields.{opensAt, fieldEnd}
+use Rattle.screen.specs.Fields.{opensAt, firstFrom, fieldEnd}
 use Rattle.edit.specs.Edits.{lies, canCopy, textOf, Copied}
-use Rattle.screen.proofs.WordLaws.{either, true-or-false}
+use Rattle.screen.proofs.WordLaws.{either, true-or-false, first-passes, first-past, first-above, first-below}
+use Rattle.screen.proofs.FieldLaws.{end-gt, end-le, none-opens}
 use Rattle.edit.proofs.EditLaws.{text-length}
 use Rattle.edit.proofs.EditLaws.{copied-whole as copied-there}
 use Rattle.reply.specs.Written.{Buffer, buffer, wroteOne, wroteAll, Wrote}
@@ -152,3 +153,54 @@ module _ {buf : List ℕ} {at : ℕ} {chars attrs buf₁ : List ℕ} {at₁ : �
   pub fields-all : length attrs ≤ cell → Wrote buf at (fieldPieces chars attrs true 0 (length attrs)) buf₁ at₁
   unfolding fieldPieces
   fields-all h = let e : length attrs - cell ≡ 0 = omega arith in writing-all (s .writing) (rw (e, fieldPieces))
+
+-- n cells at which no field opens
+fields-skips : {buf : List ℕ} {at : ℕ} {chars attrs buf₁ : List ℕ} {at₁ : ℕ} {first : Bool} {cell : ℕ} (n : ℕ)
+    → WritingFields buf at chars attrs buf₁ at₁ first cell → cell + n ≤ length attrs
+    → ((k : ℕ) → cell ≤ k → k < cell + n → opensAt attrs k ≡ false) → WritingFields buf at chars attrs buf₁ at₁ first (cell + n)
+fields-skips zero s h p = rw add-zero s
+fields-skips {cell = cell} (suc n) s h p =
+    let e : cell + suc n ≡ cell + n + 1 = omega arith in
+    let before = fields-skips n s (omega arith) (λ k a b. p k a (omega arith)) in
+    rw e (fields-skip before (omega arith) (p (cell + n) (omega arith) (omega arith)))
+
+-- the same, where the next field opens at the cell or none does
+pub record WritingTo (buf : List ℕ) (at : ℕ) (chars attrs buf₁ : List ℕ) (at₁ : ℕ) (first : Bool) (cell : ℕ) : Type 0 where
+  pub fields : WritingFields buf at chars attrs buf₁ at₁ first cell
+  pub opens : cell < length attrs → opensAt attrs cell ≡ true
+
+module _ {buf : List ℕ} {at : ℕ} {chars attrs buf₁ : List ℕ} {at₁ : ℕ} {first : Bool} {cell : ℕ} where
+  pub to-next : WritingFields buf at chars attrs buf₁ at₁ first cell → cell ≤ length attrs
+      → {next : ℕ} → next ≡ firstFrom (opensAt attrs) attrs cell (length attrs) → WritingTo buf at chars attrs buf₁ at₁ first next
+  to-next s h {next} e =
+      let n = length attrs in
+      let low : cell ≤ next = rw e (first-above (opensAt attrs) n cell (n - cell) cell (omega arith) h) in
+      let high : next < n + 1 = rw e (first-below (opensAt attrs) n cell (n - cell) (n + 1) (omega arith) (omega arith)) in
+      let there : cell + (next - cell) ≡ next = omega arith in
+      record {
+        fields = rw there at (fields-skips (next - cell) s (omega arith)
+            (λ k a b. first-past (opensAt attrs) n cell (n - cell) k (omega arith) a (rw (← e) (omega arith))));
+        opens = λ l. rw e (first-passes (opensAt attrs) n cell (n - cell) (rw (← e) l));
+      }
+
+-- the scan from its end goes on
+pub to-further : (attrs : List ℕ) {cell end next : ℕ} → cell < length attrs → end ≡ fieldEnd attrs cell
+    → next ≡ firstFrom (opensAt attrs) attrs end (length attrs) → cell < next
+to-further attrs {cell} {end} {next} h e f =
+    let n = length attrs in
+    let on : end ≤ next = rw f (first-above (opensAt attrs) n end (n - end) end (omega arith) (omega (arith, e, end-le attrs cell))) in
+    omega (arith, on, e, end-gt attrs cell h)
+
+module _ {buf : List ℕ} {at : ℕ} {chars attrs buf₁ : List ℕ} {at₁ : ℕ} {first : Bool} {cell : ℕ} where
+  -- the field is written, and the scan goes on from its end
+  pub to-more : WritingTo buf at chars attrs buf₁ at₁ first cell → cell < length attrs → {end next : ℕ} {buf₂ : List ℕ} {at₂ : ℕ}
+      → end ≡ fieldEnd attrs cell → Wrote buf₁ at₁ (separatorPieces first ++ (textPiece cell end chars ∷ [])) buf₂ at₂
+      → next ≡ firstFrom (opensAt attrs) attrs end (length attrs) → WritingTo buf at chars attrs buf₂ at₂ false next
+  to-more s h {end} e w f =
+      let low = end-gt attrs cell h in
+      let high = end-le attrs cell in
+      let there : cell + 1 + (end - (cell + 1)) ≡ end = omega (arith, low, e) in
+      let written = fields-more (s .fields) h (s .opens h) (rw e at w) in
+      let after = fields-skips (end - (cell + 1)) written (omega (arith, low, high, e))
+      (λ k a b. none-opens attrs cell k (omega arith) (omega (arith, e, there, b))) in
+      to-next (rw there at after) (omega (arith, high, e)) f

@@ -13,6 +13,7 @@ use decide::decision::Say;
 mod bytes;
 mod field;
 mod message;
+mod single;
 mod transmission;
 
 // What is said, written from the characters as they are.

@@ -72,12 +72,18 @@ module _ (attrs : List ℕ) where
       (λ l. sym (eqb-true _ _ (not-false _ (s (suc j) l (omega arith)))) ∙ joined i j (omega arith) (λ k p q. s k p (omega arith)))
       (λ l. let z : i ≡ suc j = omega arith in rw z)
 
+  -- no other field starts or opens before a field's end
+  none-starts : (i k : ℕ) → i < k → k < fieldEnd attrs i → startsAt attrs k ≡ false
+  unfolding fieldEnd
+  none-starts i k a b = first-past (startsAt attrs) (length attrs) (i + 1) (length attrs - (i + 1)) k (omega arith) (omega arith) b
+
+  pub none-opens : (i k : ℕ) → i < k → k < fieldEnd attrs i → opensAt attrs k ≡ false
+  unfolding opensAt
+  none-opens i k a b = rw (none-starts i k a b)
+
   -- the cells of a field have one attribute byte: those from i on, those up to i, all
   pub rest-equal : (i j : ℕ) → i ≤ j → j < fieldEnd attrs i → attributeAt attrs j ≡ attributeAt attrs i
-  unfolding fieldEnd
-  rest-equal i j lo hi =
-      joined i j lo
-      (λ k p q. first-past (startsAt attrs) (length attrs) (i + 1) (length attrs - (i + 1)) k (omega arith) (omega arith) (omega arith))
+  rest-equal i j lo hi = joined i j lo (λ k p q. none-starts i k p (omega arith))
 
   head-equal : (i j : ℕ) → i < length attrs → fieldStart attrs i ≤ j → j ≤ i → attributeAt attrs j ≡ attributeAt attrs (fieldStart attrs i)
   unfolding fieldStart

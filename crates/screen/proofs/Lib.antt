@@ -3,3 +3,4 @@ pub mod WordLaws
 pub mod CellLaws
 pub mod FieldLaws
 pub mod TestLaws
+pub mod SkipLaws

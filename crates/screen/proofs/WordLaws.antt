@@ -2,7 +2,7 @@
 use mathlib.Core.Path.{_≡_, refl, sym, ap, _∙_}
 use mathlib.Core.Bool.{Bool, true, false, _&&_}
 use mathlib.Core.List.{List, [], _∷_}
-use Prim.Native.Nat.{ℕ, zero, suc, _+_, _-_, _≤_, _<_}
+use Prim.Native.Nat.{ℕ, zero, suc, _+_, _-_, _≤_, _<_, min}
 use native.Mathlib.Nat.{add-zero, zero-add, add-suc, suc-add, le-of-suc-le-suc, not-suc-le-zero}
 use native.Mathlib.Numerals.{add-one}
 use native.Mathlib.Omega.{arith}
@@ -85,6 +85,32 @@ module _ (test : ℕ → Bool) (none : ℕ) where
   last-skip zero h e = absurd (omega arith)
   last-skip (suc n) h e = let k : suc n - 1 ≡ n = omega arith in rw (k, rw k at e)
 
+  -- n of them that do not pass, from i on and before the rest; and from k on, after the rest
+  pub first-skips : (n i end : ℕ) → i + n ≤ end → ((k : ℕ) → i ≤ k → k < i + n → test k ≡ false)
+      → firstOf test none i (end - i) ≡ firstOf test none (i + n) (end - (i + n))
+  first-skips zero i end h p = rw add-zero
+  first-skips (suc n) i end h p =
+      let e : i + suc n ≡ i + 1 + n = omega arith in
+      rw e (first-skip i end (omega arith) (p i (omega arith) (omega arith)) ∙ first-skips n (i + 1) end (omega arith) (λ k a b. p k (omega arith) (omega arith)))
+
+  -- none of them passes; none after the first m
+  first-none : (i n : ℕ) → ((k : ℕ) → i ≤ k → k < i + n → test k ≡ false) → firstOf test none i n ≡ none
+  unfolding firstOf
+  first-none i zero p = refl
+  first-none i (suc n) p = rw (p i (omega arith) (omega arith)) (first-none (suc i) n (λ k a b. p k (omega arith) (omega arith)))
+
+  first-cut : (i m d : ℕ) → ((k : ℕ) → i + m ≤ k → k < i + m + d → test k ≡ false) → firstOf test none i (m + d) ≡ firstOf test none i m
+  unfolding firstOf
+  first-cut i zero d p = rw zero-add (first-none i d (λ k a b. p k (omega arith) (omega arith)))
+  first-cut i (suc m) d p =
+      rw suc-add (ap (λ r. if test i then i else r) (first-cut (suc i) m d (λ k a b. p k (omega arith) (omega arith))))
+
+  pub last-skips : (n k : ℕ) → ((i : ℕ) → k ≤ i → i < k + n → test i ≡ false) → lastOf test none (k + n) ≡ lastOf test none k
+  unfolding lastOf
+  last-skips zero k p = rw add-zero
+  last-skips (suc n) k p =
+      rw (add-suc k n, lastOf, p (k + n) (omega arith) (omega arith)) (last-skips n k (λ i a b. p i a (omega arith)))
+
   -- what a scan finds passes
   pub first-passes : (i n : ℕ) → firstOf test none i n < none → test (firstOf test none i n) ≡ true
   unfolding firstOf
@@ -116,6 +142,27 @@ module _ (test : ℕ → Bool) (none : ℕ) where
   unfolding firstOf
   first-above i zero b h k = k
   first-above i (suc n) b h k = either (λ o. b ≤ o) (test i) (λ e. h) (λ e. first-above (suc i) n b (omega arith) k)
+
+-- what is found does not depend on the answer where nothing is
+first-found : (test : ℕ → Bool) (none other i n : ℕ) → firstOf test none i n < none → firstOf test other i n ≡ firstOf test none i n
+unfolding firstOf
+first-found test none other i zero h = absurd (omega arith)
+first-found test none other i (suc n) h =
+    true-or-false (test i) (λ e. rw e) (λ e. rw e (first-found test none other (suc i) n (rw e at h)))
+
+-- Around n numbers from i on: one is found before the end, and it is the answer; or none, and those before i are left.
+module _ (test : ℕ → Bool) (none i n : ℕ) where
+  pub around-found : firstOf test n i (n - i) < n → firstOf test n i (n - i) ≡ firstOf test (firstOf test none 0 (n - 0)) i (n - i)
+  around-found h = sym (first-found test n (firstOf test none 0 (n - 0)) i (n - i) h)
+
+  pub around-left : n ≤ firstOf test n i (n - i) → firstOf test none 0 (min i n - 0) ≡ firstOf test (firstOf test none 0 (n - 0)) i (n - i)
+  around-left h =
+      let past : (k : ℕ) → min i n ≤ k → k < n → test k ≡ false =
+      λ k a b. first-past test n i (n - i) k (omega arith) (omega arith) (omega arith) in
+      let all : n - 0 ≡ min i n + (n - min i n) = omega arith in
+      let few : min i n - 0 ≡ min i n = omega arith in
+      rw (few, first-none test (firstOf test none 0 (n - 0)) i (n - i) (λ k a b. past k (omega arith) (omega arith)), all)
+      (sym (first-cut test none 0 (min i n) (n - min i n) (λ k a b. past k (omega arith) (omega arith))))
 
 -- ---- a list by its elements
 

@@ -34,6 +34,10 @@ opensAt attrs i = startsAt attrs i && not (protectedAt attrs i)
 abbrev pub firstFrom : (ℕ → Bool) → List ℕ → ℕ → ℕ → ℕ
 firstFrom test attrs i none = firstOf test none i (length attrs - i)
 
+-- the same, around the screen
+abbrev pub firstAround : (ℕ → Bool) → List ℕ → ℕ → ℕ → ℕ
+firstAround test attrs i none = firstFrom test attrs i (firstFrom test attrs 0 none)
+
 abbrev pub lastBefore : (ℕ → Bool) → List ℕ → ℕ → ℕ → ℕ
 lastBefore test attrs i none = lastOf test none (min i (length attrs))
 

@@ -4,3 +4,4 @@ pub mod Attributes
 pub mod Fields
 pub mod Scans
 pub mod Classes
+pub mod inner

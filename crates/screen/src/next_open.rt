@@ -4,21 +4,36 @@ ghost use Prim.Native.Nat.{_*_, _<_};
 ghost use lib.ListN.{length};
 ghost use Rattle.screen.specs.Cells.{cellOf, placeOf};
 ghost use Rattle.screen.specs.Scans.{nextOpen, nextOpenPlace};
+ghost use Rattle.screen.specs.inner.Skips.{PastGuarded};
 use crate::attribute::is_guarded;
+use crate::block::past;
 use crate::cell::Column;
 use crate::cell::Line;
 use crate::cell::Place;
 use crate::cell::cell_of;
 use crate::cell::line_start;
 use crate::cell::on_screen;
+use crate::cell::place_of;
+use crate::scan::Target;
+
+// A place after the cursor's up to which all are guarded; past the last line where none is left.
+fn past_guarded(suppressed: bool, attrs: &[u8], width: u8, height: u8, cursor: Place) -> Place
+    requires { ⌜ (cursor .x .0 < width) × (cursor .y .0 < height) × (length (now attrs) ≡ height * width) ⌝ }
+    ensures { λ r. ⌜ PastGuarded suppressed (now (attrs .entry)) width height cursor r ⌝ }
+{
+    let target = Target::Open(suppressed);
+    let cell = past(attrs, target, cell_of(width, cursor) + 1, attrs.len());
+    place_of(width, cell)
+}
 
 // (Document 01, code places: a nested scan over lines and positions, left by a label at the first open cell.)
 fn open_after(suppressed: bool, attrs: &[u8], width: u8, height: u8, cursor: Place) -> Place
     requires { ⌜ (cursor .x .0 < width) × (cursor .y .0 < height) × (length (now attrs) ≡ height * width) ⌝ }
     ensures { λ r. ⌜ r ≡ placeOf width (nextOpen suppressed (now (attrs .entry)) (cellOf width cursor)) ⌝ }
 {
-    let mut x = cursor.x.0 + 1;
-    let mut y = cursor.y.0;
+    let from = past_guarded(suppressed, attrs, width, height, cursor);
+    let mut x = from.x.0;
+    let mut y = from.y.0;
     let mut open = cursor;
     'scan: while y < height {
         while x < width {

@@ -1,29 +1,18 @@
--- `put_fields` meets its contract: in the loop, the fields that open before the cell are written.
-use mathlib.Core.Logic.{⊎-elim}
-use mathlib.Core.Path.{sym, _∙_}
+-- `put_fields` meets its contract: in the loop, the fields that open before the cell are written, and at the cell opens the next.
 use Prim.Native.Nat.{_-_}
+use native.Mathlib.Omega.{arith}
 use lib.ListN.{length}
 use borrow.Author.Needs.{needs}
-use Rattle.reply.proofs.WriteLaws.{WritingFields, writing-length, fields-start, fields-more, fields-skip, fields-all}
+use Rattle.reply.proofs.WriteLaws.{WritingTo, writing-length, fields-start, fields-all, to-next, to-further, to-more}
+use Rattle.reply.proofs.SingleLaws.{to-after}
 use Rattle.reply.proofs.field.put_fields.Statement.{statement}
 use Rattle.reply.proofs.field.put_fields.Tie as tie
 
 abbrev Inv-loop : tie.InvT-loop
-Inv-loop chars attrs reply₀ at next₀ first₀ cell₀ reply next first cell = WritingFields reply₀ at chars attrs reply next first cell
+Inv-loop chars attrs reply₀ at next₀ first₀ cell₀ reply next first cell = WritingTo reply₀ at chars attrs reply next first cell
 
 abbrev μ-loop : tie.MeasureT-loop
 μ-loop chars attrs reply₀ at next₀ first₀ cell₀ reply next first cell = length attrs - cell
-
-loop-again : tie.Need-loop-again Inv-loop μ-loop
-loop-again c =
-    let o = c .before in
-    let inv = o .before .before .loop .inv in
-    let within = o .before .loop-test .taken in
-    let test = sym (o .opens-at .ensures) in
-    ⊎-elim
-    (λ w. rw (w .5, w .6, w .7) (fields-more inv within (test ∙ w .0 .taken) (w .2 .ensures)))
-    (λ w. rw (w .1, w .2, w .3) (fields-skip inv within (test ∙ w .0 .left)))
-    (c .if1 .came)
 
 pub put-fields-spec : {M : Type 1} → statement M
 put-fields-spec =
@@ -31,8 +20,23 @@ put-fields-spec =
     (tie.spec
     Inv-loop
     μ-loop
-    (λ c. fields-start)
-    (search needs) (search needs) (search needs) (search needs)
-    loop-again
-    (λ c. writing-length (c .before .loop .inv .writing))
-    (λ c. fields-all (c .before .loop .inv) (c .loop-test .left)))
+    (search needs)
+    (λ c. to-next fields-start (omega arith) (c .field-from .ensures))
+    (search needs)
+    (λ c κs. let r = c .before .before .are-singles .ensures (c .before .if1 .taken) in (r .characters, r .fit))
+    (λ c. let r = c .before .before .before .before .before in
+    omega (arith, (r .are-singles .ensures (c .before .before .before .before .if1 .taken)) .cells))
+    (λ c. omega (arith, c .before .before .before .before .before .before .loop-test .taken))
+    (λ c. let p = c .before .before in
+    let r = p .before .before .before in
+    to-after (r .before .before .loop .inv) (r .are-singles .ensures (p .before .before .if1 .taken)) (p .put-singles .ensures))
+    (search needs) (search needs) (search needs)
+    (λ c. let e = c .before .before .before .before .before in
+    let t = e .before .before .before .loop-test .taken in
+    omega (arith, to-further _ t (e .field-end .ensures) (c .field-from2 .ensures), t))
+    (λ c. let p = c .before .before .before in
+    let e = p .before .before in
+    let t = e .before .before .before in
+    to-more (t .before .loop .inv) (t .loop-test .taken) (e .field-end .ensures) (p .put-field .ensures) (c .field-from2 .ensures))
+    (λ c. writing-length (c .before .loop .inv .fields .writing))
+    (λ c. fields-all (c .before .loop .inv .fields) (c .loop-test .left)))

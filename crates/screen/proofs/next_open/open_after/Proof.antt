@@ -3,10 +3,12 @@ use Rattle.screen.proofs.Kit.{_≡_, refl, sym, ap, _∙_, Bool, true, 
 use Rattle.screen.specs.Cells.{place, cellOf, placeOf}
 use Rattle.screen.specs.Attributes.{guardedAt}
 use Rattle.screen.specs.Fields.{firstFrom}
-use Rattle.screen.specs.Scans.{nextOpen}
+use Rattle.screen.specs.Scans.{isTarget, nextOpen}
+use Rattle.screen.specs.inner.Skips.{PastGuarded}
 use Rattle.screen.specs.declared.cell.Place.{Place}
 use Rattle.screen.proofs.WordLaws.{first-hit, first-skip, first-end}
 use Rattle.screen.proofs.CellLaws.{cell-lt, next-line, place-of-cell}
+use Rattle.screen.proofs.SkipLaws.{first-past-none}
 use Rattle.screen.proofs.next_open.open_after.Statement.{statement}
 use Rattle.screen.proofs.next_open.open_after.Tie as tie
 
@@ -21,9 +23,15 @@ record Seeking (suppressed : Bool) (attrs : List ℕ) (width height : ℕ) (p : 
   answer : nextOpen suppressed attrs (cellOf width p) ≡ firstFrom (isOpen suppressed attrs) attrs (y * width + x) (cellOf width p)
 
 module _ {suppressed : Bool} {attrs : List ℕ} {width height : ℕ} {p : Place} where
-  begins : p .x .0 < width → length attrs ≡ height * width → Seeking suppressed attrs width height p (p .x .0 + 1) (p .y .0)
-  unfolding nextOpen
-  begins h e = record { size = e; start = h; column = omega arith; answer = rw add-assoc }
+  begins : p .x .0 < width → length attrs ≡ height * width → {r : Place} → PastGuarded suppressed attrs width height p r
+      → Seeking suppressed attrs width height p (r .x .0) (r .y .0)
+  unfolding nextOpen isTarget
+  begins h e g = record {
+    size = e;
+    start = h;
+    column = omega (arith, g .column);
+    answer = first-past-none (cellOf width p) (length attrs) (g .guarded) (g .after) (g .within);
+  }
 
   module _ {x y : ℕ} (s : Seeking suppressed attrs width height p x y) where
     turns : width ≤ x → Seeking suppressed attrs width height p 0 (y + 1)
@@ -64,7 +72,9 @@ open-after-spec =
     (λ suppressed attrs width height x₀ y₀ open₀ x y «open». (y ≤ height) × («open» ≡ open₀) × Seeking suppressed attrs width height «open» x y)
     (λ suppressed attrs width height x₀ y₀ open₀ x y «open». height - y)
     (search needs)
-    (λ c. let p = c .before .before .pre in (omega (arith, p), refl, begins (p .0) (p .2)))
+    (λ c. let p = c .before .before .pre in
+    let g = c .past-guarded .ensures in
+    (g .line, refl, begins (p .0) (p .2) g))
     (λ c. (refl, c .before .scan .inv .2))
     (search needs) (search needs)
     (λ c. omega (arith, c .before .before .before .loop-test))

@@ -4,6 +4,7 @@ use Rattle.screen.specs.Words.{lastOf}
 use Rattle.screen.specs.Fields.{lastBefore}
 use Rattle.screen.specs.Scans.{isTarget}
 use Rattle.screen.proofs.WordLaws.{last-hit, last-skip}
+use Rattle.screen.proofs.SkipLaws.{last-past-none}
 use Rattle.screen.proofs.scan.last.Statement.{statement}
 use Rattle.screen.proofs.scan.last.Tie as tie
 
@@ -14,8 +15,8 @@ last-spec =
     (tie.spec
     (λ attrs target before none cell₀ cell. lastBefore (isTarget attrs target) attrs before none ≡ lastOf (isTarget attrs target) none cell)
     (λ attrs target before none cell₀ cell. cell)
-    (search needs)
-    (λ c. rw (c .least .ensures))
+    (search needs) (search needs)
+    (λ c. let p = c .behind .ensures in rw (← c .before .least .ensures) (last-past-none _ (p .1) (p .0)))
     (λ c. omega arith)
     (search needs)
     (λ c. let l = c .before .before .before in

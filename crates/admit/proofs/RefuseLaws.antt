@@ -9,8 +9,8 @@ use borrow.Author.Tests.{leb-true, leb-false, le-leb, lt-leb}
 use lib.Dec.{leb}
 use lib.ListN.{length, getD, drop}
 use lib.Seq.{drop-cons}
-use Rattle.screen.specs.Words.{between}
-use Rattle.screen.proofs.WordLaws.{true-or-false, not-both, and-left, and-right}
+use Rattle.words.specs.Words.{between}
+use Rattle.words.proofs.Laws.{true-or-false, not-both, and-left, and-right}
 use Rattle.screen.proofs.CellLaws.{cells-few}
 use Rattle.rules.specs.declared.Refusal.the-variants.{Taken}
 use Rattle.rules.specs.Session.{sizesOk, allPrintable}

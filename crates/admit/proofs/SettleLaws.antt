@@ -7,7 +7,7 @@ use borrow.Author.Tests.{eqb-true}
 use lib.Dec.{eqb}
 use lib.ListN.{length}
 use Rattle.edit.specs.Edits.{erased, formatted}
-use Rattle.screen.proofs.WordLaws.{and-left, and-right}
+use Rattle.words.proofs.Laws.{and-left, and-right}
 use Rattle.edit.proofs.EditLaws.{all-spaces, all-zeros}
 use Rattle.rules.specs.declared.Refusal.{Refusal}
 use Rattle.rules.specs.declared.Refusal.the-variants.{Taken}

@@ -4,7 +4,7 @@ ghost use Prim.Native.Nat.{_+_};
 ghost use Rattle.telnet.specs.Reader.{verbCode};
 ghost use Rattle.telnet.specs.declared.Verb.the-variants.{Will, Dont};
 ghost use Rattle.screen.specs.Cells.{cellOf};
-ghost use Rattle.screen.specs.Words.{if_then_else_, between};
+ghost use Rattle.words.specs.Words.{if_then_else_, between};
 ghost use Rattle.rules.specs.Command.{formatCount, valueFault, faultOf};
 ghost use Rattle.command.specs.Frame.{seen};
 use crate::character::is_printable;

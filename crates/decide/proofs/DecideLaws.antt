@@ -9,7 +9,8 @@ use borrow.Author.Tests.{lt-ltb, eq-eqb, ltb-true, eqb-true}
 use Rattle.screen.specs.Cells.{cellOf, onScreen}
 use Rattle.screen.specs.Fields.{firstFrom, lastBefore}
 use Rattle.screen.proofs.CellLaws.{cell-lt}
-use Rattle.screen.proofs.WordLaws.{first-below, last-below, and-left, and-right}
+use Rattle.words.proofs.Laws.{and-left, and-right}
+use Rattle.screen.proofs.WordLaws.{first-below, last-below}
 use Rattle.rules.specs.declared.Frame.{Frame}
 use Rattle.rules.specs.Session.{View, cells}
 use Rattle.rules.specs.Effect.{Effect}

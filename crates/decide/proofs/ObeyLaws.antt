@@ -10,7 +10,7 @@ use denote.Enum.Declared.{tagOf}
 use Rattle.edit.specs.declared.range.Shift.{Shift}
 use Rattle.screen.specs.Cells.{lineEnd}
 use Rattle.screen.specs.Fields.{fieldEnd}
-use Rattle.screen.proofs.WordLaws.{either}
+use Rattle.words.proofs.Laws.{either}
 use Rattle.screen.proofs.CellLaws.{line-within}
 use Rattle.screen.proofs.FieldLaws.{end-gt}
 use Rattle.rules.specs.declared.Command.{Command}

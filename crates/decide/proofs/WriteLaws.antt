@@ -8,11 +8,11 @@ use native.Mathlib.Omega.{arith}
 use borrow.Author.Tests.{lt-ltb, eq-eqb}
 use types.Run.{OneOf}
 use denote.Enum.Declared.{tagOf}
-use Rattle.screen.specs.Words.{if_then_else_}
+use Rattle.words.specs.Words.{if_then_else_}
 use Rattle.screen.specs.declared.cell.Place.{Place}
 use Rattle.screen.specs.Scans.{nextOpenPlace}
 use Rattle.screen.specs.Classes.{takes}
-use Rattle.screen.proofs.WordLaws.{true-or-false}
+use Rattle.words.proofs.Laws.{true-or-false}
 use Rattle.rules.specs.declared.Refusal.{Refusal}
 use Rattle.rules.specs.declared.Refusal.the-variants.{Taken}
 use Rattle.rules.specs.declared.Destination.the-variants.{NextOpen}

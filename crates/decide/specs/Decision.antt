@@ -3,7 +3,7 @@ use mathlib.Core.Path.{_≡_}
 use mathlib.Core.List.{List, [], _∷_}
 use Prim.Native.Nat.{ℕ, _≤_}
 use lib.ListN.{length}
-use Rattle.screen.specs.Words.{if_then_else_}
+use Rattle.words.specs.Words.{if_then_else_}
 use Rattle.edit.specs.Edits.{formatted}
 use Rattle.rules.specs.Session.{View, view, withAttrs}
 use Rattle.rules.specs.Effect.{Effect, Part, put, erase, shift, text, message, changing, quiet}

@@ -1,7 +1,7 @@
 -- What happens to a character: written, dropped, refused by guard or refused by class.
 use mathlib.Core.Path.{_≡_}
 use Prim.Native.Nat.{ℕ}
-use Rattle.screen.specs.Words.{if_then_else_}
+use Rattle.words.specs.Words.{if_then_else_}
 use Rattle.screen.specs.Classes.{takes}
 use Rattle.screen.specs.declared.cell.Place.{Place}
 use Rattle.rules.specs.declared.Frame.{Frame}

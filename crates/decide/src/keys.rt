@@ -1,7 +1,7 @@
 // One key: what it means, which refusal it draws, what it does.
 ghost use mathlib.Core.Path.{_≡_};
 ghost use Prim.Native.Nat.{_-_};
-ghost use Rattle.screen.specs.Words.{if_then_else_, between};
+ghost use Rattle.words.specs.Words.{if_then_else_, between};
 ghost use Rattle.rules.specs.Key.{keyOf, keyTests, pressed};
 ghost use Rattle.rules.specs.Refusal.{verdict};
 ghost use Rattle.command.specs.Frame.{seen};

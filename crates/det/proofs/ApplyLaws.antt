@@ -7,7 +7,7 @@ use native.Mathlib.Nat.{not-suc-le-zero}
 use native.Mathlib.Omega.{arith}
 use types.Run.{OneOf}
 use denote.Enum.Declared.{tagOf}
-use Rattle.screen.proofs.WordLaws.{either}
+use Rattle.words.proofs.Laws.{either}
 use Rattle.rules.specs.declared.Frame.{Frame}
 use Rattle.rules.specs.Session.{Screen, View, screen, view}
 use Rattle.rules.specs.Effect.{Effect, changedAll, changing}

@@ -18,10 +18,10 @@ use Rattle.rules.proofs.Room.{room-byte}
 use Rattle.rules.proofs.Running.{running-append, silent-taken, taken-step}
 use Rattle.det.specs.declared.apply.Applied.{Applied}
 use Rattle.det.specs.declared.take.Told.{Told}
-use Rattle.reply.specs.inner.Reply.{Emitted}
+use Rattle.words.specs.Stored.{Emitted}
 use Rattle.det.specs.inner.Apply.{Applies, Answerable}
 use Rattle.det.specs.inner.Take.{Accepts, Taking, QuietRun, Tells, hostTaken}
-use Rattle.det.proofs.ReplyLaws.{emitted-none, emitted-length, emitted-then, emitted-whole}
+use Rattle.words.proofs.StoredLaws.{emitted-none, emitted-length, emitted-then, emitted-whole}
 use Rattle.det.proofs.TakeLaws.{accepted, byte-answerable, byte-state, byte-replies}
 
 -- ---- none, and some after others

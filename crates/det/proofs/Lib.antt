@@ -1,4 +1,3 @@
-pub mod ReplyLaws
 pub mod ApplyLaws
 pub mod QuietLaws
 pub mod TakeLaws

@@ -28,12 +28,13 @@ use Rattle.decide.specs.declared.decision.Say.{Say}
 use Rattle.det.specs.declared.apply.Applied.{Applied}
 use Rattle.command.specs.inner.Frame.{Fits}
 use Rattle.decide.specs.Decision.{meant, shown, partsOf, Sendable, Decides}
-use Rattle.reply.specs.inner.Reply.{Emitted, Sayable}
+use Rattle.words.specs.Stored.{Emitted}
+use Rattle.reply.specs.inner.Reply.{Sayable}
 use Rattle.text.specs.Text.{Changes}
 use Rattle.det.specs.inner.Apply.{Applies, Answerable}
 use Rattle.det.specs.inner.Take.{Accepts}
 use Rattle.text.proofs.TextLaws.{data-only}
-use Rattle.det.proofs.ReplyLaws.{emitted-none}
+use Rattle.words.proofs.StoredLaws.{emitted-none}
 
 -- ---- what is done on an event
 

@@ -7,7 +7,7 @@ use native.Mathlib.Omega.{arith}
 use borrow.Author.Tests.{ltb-false, lt-leb, eq-eqb, ne-eqb}
 use lib.Dec.{leb, ltb}
 use lib.ListN.{length}
-use Rattle.screen.proofs.WordLaws.{true-or-false, and-false}
+use Rattle.words.proofs.Laws.{true-or-false, and-false}
 use Rattle.rules.specs.declared.Session.{Session}
 use Rattle.rules.specs.declared.Answer.{Answer}
 use Rattle.rules.specs.declared.Refusal.{Refusal}

@@ -12,10 +12,10 @@ use lib.ListN.{length, drop-of-length-le}
 use Rattle.telnet.specs.declared.Verb.the-variants.{Will, Wont, Do, Dont}
 use Rattle.telnet.specs.declared.Phase.{Phase}
 use Rattle.telnet.specs.declared.Phase.the-variants.{Rest, Iac, Negotiating, Opening, OpeningIac, Inside, InsideIac}
-use Rattle.screen.specs.Words.{tabulate}
+use Rattle.words.specs.Words.{tabulate}
 use Rattle.screen.specs.Cells.{place}
 use Rattle.edit.specs.Edits.{Copied}
-use Rattle.screen.proofs.WordLaws.{true-or-false, and-left, and-right, tabulated}
+use Rattle.words.proofs.Laws.{true-or-false, and-left, and-right, tabulated}
 use Rattle.rules.specs.declared.Held.{Held}
 use Rattle.rules.specs.declared.Session.{Session}
 use Rattle.rules.specs.Session.{session}

@@ -5,7 +5,7 @@ use mathlib.Core.List.{List, []}
 use Prim.Native.Nat.{ℕ}
 use lib.Dec.{eqb, ltb}
 use lib.ListN.{length}
-use Rattle.screen.specs.Words.{if_then_else_}
+use Rattle.words.specs.Words.{if_then_else_}
 use Rattle.rules.specs.declared.Answer.{Answer}
 use Rattle.rules.specs.Session.{Screen, state}
 use Rattle.rules.specs.Refusal.{numberOf}

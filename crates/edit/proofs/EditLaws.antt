@@ -9,12 +9,13 @@ use borrow.Rule.Slice.PartMut.{putMid, post-is}
 use lib.Dec.{leb, ltb, eqb}
 use lib.ListN.{length, getD, take, drop, replicate, length-drop, length-replicate, getD-replicate, List·getD-eq-default}
 use lib.Seq.{paste, length-take-le, getD-take, getD-drop}
-use Rattle.screen.specs.Words.{if_then_else_, inRange}
+use Rattle.words.specs.Words.{if_then_else_}
+use Rattle.screen.specs.Words.{inRange}
 use Rattle.screen.specs.Attributes.{protection, protectedAt, guardedAt}
 use Rattle.edit.specs.declared.range.Shift.{Shift}
 use Rattle.edit.specs.declared.range.Shift.the-variants.{Insertion, Deletion}
 use Rattle.edit.specs.Edits.{deleted, deletedCell, inserted, insertedCell, shifted, lies, onPart, erased, erasedCell, formatted, formattedCell, textOf, canCopy, Copied}
-use Rattle.screen.proofs.WordLaws.{either, true-or-false, and-left, and-right, and-false, getD-within, tabulate-length, getD-tabulate, tabulated}
+use Rattle.words.proofs.Laws.{either, true-or-false, and-left, and-right, and-false, getD-within, tabulate-length, getD-tabulate, tabulated}
 use Rattle.screen.proofs.FieldLaws.{open-within}
 use Rattle.edit.proofs.ListLaws.{in-range, after-range, Replaces, replaced-length, replaced-before, replaced-inside, replaced-after}
 

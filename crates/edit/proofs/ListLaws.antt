@@ -8,8 +8,9 @@ use borrow.Author.Tests.{eqb-true, eqb-false, ltb-true, ltb-false, lt-ltb, le-lt
 use lib.Dec.{eqb, ltb, leb}
 use lib.ListN.{length, getD, set, take, drop, length-set, length-append, length-drop, List·getD-append, List·getD-eq-default}
 use lib.Seq.{getD-set-same, getD-set-other, getD-append-add, getD-take, getD-drop, length-take-le}
-use Rattle.screen.specs.Words.{if_then_else_, inRange, tabulate}
-use Rattle.screen.proofs.WordLaws.{true-or-false, and-false, getD-within, tabulated}
+use Rattle.words.specs.Words.{if_then_else_, tabulate}
+use Rattle.screen.specs.Words.{inRange}
+use Rattle.words.proofs.Laws.{true-or-false, and-false, getD-within, tabulated}
 
 -- two lists of one length that hold the same at k do so for every value beyond their ends
 pub same-read : (s t : List ℕ) (k d : ℕ) → length s ≡ length t → (k < length t → getD s k 0 ≡ getD t k 0) → getD s k d ≡ getD t k d

@@ -9,7 +9,8 @@ use lib.ListN.{length, getD, take, drop}
 use lib.Seq.{paste}
 use Rattle.edit.specs.declared.range.Shift.{Shift}
 use Rattle.edit.specs.declared.range.Shift.the-variants.{Insertion, Deletion}
-use Rattle.screen.specs.Words.{if_then_else_, inRange, tabulate}
+use Rattle.words.specs.Words.{if_then_else_, tabulate}
+use Rattle.screen.specs.Words.{inRange}
 use Rattle.screen.specs.Attributes.{attributeAt, guardedAt}
 
 -- 16, char delete: the part moves `by` cells towards its start, and spaces come in at its end

@@ -4,7 +4,7 @@ ghost use mathlib.Core.Bool.{false, _&&_};
 ghost use Prim.Native.Nat.{_+_, _-_, _<_};
 ghost use lib.Dec.{leb};
 ghost use lib.ListN.{length};
-ghost use Rattle.screen.specs.Words.{if_then_else_};
+ghost use Rattle.words.specs.Words.{if_then_else_};
 ghost use Rattle.edit.specs.Edits.{deletedCell, insertedCell, deleted, inserted, shifted, onPart, erased, formatted};
 use screen::attribute::protection;
 use screen::number::least;

@@ -105,16 +105,21 @@ acts vs p v = known vs p && admissible p v
 unfoldable pub withPair : Values → ℕ → ℕ → Values
 withPair vs p v = record { held = if acts vs p v then set (vs .held) (slotOf p) v else vs .held }
 
--- the first n values are admissible
+-- each value in its entry's ranges, in the list's order
+unfoldable pub eachIn : List Entry → List ℕ → Bool
+eachIn [] vs = true
+eachIn (e ∷ es) [] = admits (e .values) 0 && eachIn es []
+eachIn (e ∷ es) (v ∷ vs) = admits (e .values) v && eachIn es vs
+
+abbrev pub allAdmissible : Values → Bool
+allAdmissible vs = eachIn table (vs .held)
+
+-- the first n values are admissible, each by its parameter
 unfoldable pub admissibleTo : Values → ℕ → Bool
 admissibleTo vs zero = true
 admissibleTo vs (suc n) = admissibleTo vs n && admissible (numberOf n) (getD (vs .held) n 0)
 
--- all of them are
-abbrev pub allAdmissible : Values → Bool
-allAdmissible vs = admissibleTo vs 28
-
 -- names all of the above: under `unfolding parameters` a proof computes with them
 unfoldable pub parameters : ℕ
-unfolding table admits admitsIn startValues known withPair admissibleTo
+unfolding table admits admitsIn startValues known withPair eachIn
 parameters = 0

@@ -11,10 +11,12 @@ use lib.ListN.{length, length-append}
 use lib.Seq.{sets, length-sets}
 use Rattle.telnet.specs.Reader.{iac, se}
 use Rattle.telnet.specs.Writer.{doubled, subnegotiation, negotiation}
-use Rattle.screen.specs.Words.{if_then_else_}
+use Rattle.words.specs.Words.{if_then_else_}
+use Rattle.words.specs.Stored.{Room, Emitted}
 use Rattle.screen.specs.Fields.{opensAt, fieldEnd}
 use Rattle.edit.specs.Edits.{lies}
-use Rattle.screen.proofs.WordLaws.{true-or-false}
+use Rattle.words.proofs.Laws.{true-or-false}
+use Rattle.words.proofs.StoredLaws.{sets-append}
 use Rattle.screen.proofs.FieldLaws.{end-gt, end-le}
 use Rattle.rules.specs.Effect.{Part, spelled, spelledAll}
 use Rattle.rules.specs.Subcommand.{fieldTexts, withoutFirst}
@@ -24,16 +26,12 @@ use Rattle.decide.specs.Decision.{partsOf, Sendable}
 use Rattle.reply.specs.Written.{Buffer, buffer, wroteAll, Wrote}
 use Rattle.rules.specs.Number.{detOption, dataTransmit, fieldSeparator}
 use Rattle.reply.specs.Pieces.{doubledPieces, messagePieces, textPiece, fieldPieces, sayPieces}
-use Rattle.reply.specs.inner.Reply.{Room, Emitted, Sayable}
+use Rattle.reply.specs.inner.Reply.{Sayable}
 use Rattle.reply.proofs.WriteLaws.{whole, wrote-by}
 
 abbrev pub joined : List (List ℕ) → List ℕ
 joined [] = []
 joined (p ∷ ps) = p ++ joined ps
-
-sets-append : (xs buf : List ℕ) (at : ℕ) (ys : List ℕ) → sets (sets buf at xs) (at + length xs) ys ≡ sets buf at (xs ++ ys)
-sets-append [] buf at ys = rw add-zero
-sets-append (x ∷ xs) buf at ys = rw (add-suc, ← suc-add at (length xs)) (sets-append xs _ (suc at) ys)
 
 all-fit : (ps : List (List ℕ)) (buf : List ℕ) (at : ℕ) → at + length (joined ps) ≤ length buf
     → wroteAll (buffer buf at) ps ≡ buffer (sets buf at (joined ps)) (at + length (joined ps))

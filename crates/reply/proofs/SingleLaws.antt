@@ -12,7 +12,8 @@ use lib.ListN.{length, getD}
 use lib.Seq.{drop-cons}
 use Rattle.screen.specs.Attributes.{protection, protectedAt}
 use Rattle.screen.specs.Fields.{startsAt, opensAt, fieldEnd}
-use Rattle.screen.proofs.WordLaws.{less-or-not, and-left, getD-within, first-hit}
+use Rattle.words.proofs.Laws.{less-or-not, and-left, getD-within}
+use Rattle.screen.proofs.WordLaws.{first-hit}
 use Rattle.reply.specs.Written.{Wrote}
 use Rattle.reply.specs.Pieces.{doubledPieces, textPiece, separatorPieces, fieldPieces}
 use Rattle.reply.specs.inner.Single.{singlePieces, EachOpens, Singles}

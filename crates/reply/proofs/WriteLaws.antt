@@ -10,10 +10,11 @@ use borrow.Author.Tests.{le-leb, leb-true}
 use lib.Dec.{leb}
 use lib.ListN.{length, drop, getD, drop-of-length-le}
 use lib.Seq.{sets, sets-eq, length-sets, take-all, drop-cons}
-use Rattle.screen.specs.Words.{if_then_else_}
+use Rattle.words.specs.Words.{if_then_else_}
 use Rattle.screen.specs.Fields.{opensAt, firstFrom, fieldEnd}
 use Rattle.edit.specs.Edits.{lies, canCopy, textOf, Copied}
-use Rattle.screen.proofs.WordLaws.{either, true-or-false, first-passes, first-past, first-above, first-below}
+use Rattle.words.proofs.Laws.{either, true-or-false}
+use Rattle.screen.proofs.WordLaws.{first-passes, first-past, first-above, first-below}
 use Rattle.screen.proofs.FieldLaws.{end-gt, end-le, none-opens}
 use Rattle.edit.proofs.EditLaws.{text-length}
 use Rattle.edit.proofs.EditLaws.{copied-whole as copied-there}

@@ -6,7 +6,7 @@ use lib.Dec.{eqb}
 use lib.ListN.{length}
 use Rattle.telnet.specs.Reader.{iac, sb, se}
 use Rattle.telnet.specs.Writer.{negotiation}
-use Rattle.screen.specs.Words.{if_then_else_}
+use Rattle.words.specs.Words.{if_then_else_}
 use Rattle.screen.specs.declared.cell.Place.{Place}
 use Rattle.screen.specs.Fields.{opensAt, fieldEnd}
 use Rattle.edit.specs.Edits.{lies, textOf}

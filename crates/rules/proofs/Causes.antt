@@ -1,9 +1,11 @@
--- Nothing but what document 01 names changes the attribute bytes, DET, suppression, the characters or the cursor.
+-- Nothing but what the documents name changes the attribute bytes, the options, suppression, the characters, the cursor, or what the PAD
+-- keeps.
 use mathlib.Core.Path.{_≡_, refl, sym, _∙_}
 use mathlib.Core.Bool.{Bool, true, false, not, _&&_}
-use mathlib.Core.List.{List, [], _∷_, map}
+use mathlib.Core.List.{List, [], _∷_, _++_, map}
 use Prim.Native.Nat.{ℕ, zero, suc, _+_}
-use borrow.Author.Tests.{not-true, not-false}
+use native.Mathlib.Omega.{arith}
+use borrow.Author.Tests.{not-true, eqb-true, eqb-false, ltb-true, lt-leb}
 use lib.Dec.{leb, ltb, eqb}
 use lib.ListN.{take, drop}
 use Rattle.telnet.specs.declared.Verb.{Verb}
@@ -12,29 +14,41 @@ use Rattle.telnet.specs.declared.Event.{Event}
 use Rattle.telnet.specs.declared.Event.the-variants.{Nothing, Data, Negotiation, Begin, Sub, End, EndBare, Lost}
 use Rattle.telnet.specs.Reader.{readOf}
 use Rattle.screen.specs.declared.cell.Place.{Place}
-use Rattle.screen.specs.Words.{if_then_else_, between}
-use Rattle.screen.proofs.WordLaws.{either, true-or-false, not-both, and-left, and-right}
+use Rattle.words.specs.Words.{if_then_else_, between}
+use Rattle.words.proofs.Laws.{either, true-or-false, not-both, and-left, and-right, and-off, in-between}
+use Rattle.pad.specs.declared.message.Stage.{Stage}
+use Rattle.pad.specs.declared.message.Stage.the-variants.{Code, Parameter, Value}
+use Rattle.pad.specs.declared.echo.Echo.{Echo}
+use Rattle.pad.specs.Parameters.{valueOf}
+use Rattle.pad.specs.Line.{textOf, full}
+use Rattle.pad.specs.Message.{isSet, ended}
+use Rattle.pad.specs.Keys.{forwards, kindOf}
+use Rattle.pad.specs.Echo.{echoSet, echoed, keyEcho, plainEcho, echoBy, bytesOf, echoOf}
 use Rattle.rules.specs.declared.Held.{Held}
 use Rattle.rules.specs.declared.Reader.{Reader}
+use Rattle.rules.specs.declared.Pad.{Pad}
 use Rattle.rules.specs.declared.Command.{Command}
 use Rattle.rules.specs.declared.Command.the-variants.{Facilities, MoveCursor, Move, CharShift, ReadCursor, Transmit, Erase, FormatData, Repeat, SuppressProtection, Error}
 use Rattle.rules.specs.declared.Fault.{Fault}
 use Rattle.rules.specs.declared.Fault.the-variants.{NoFault, UnknownCode, OffScreen, TooManyParameters, TooFewParameters, BadValue, BadMap}
 use Rattle.rules.specs.declared.Key.{Key}
-use Rattle.rules.specs.Session.{View, State, printable, viewOf, cursorCell, screenEnd, withCursor, withModes, withAttrs}
+use Rattle.rules.specs.declared.Key.the-variants.{ToLine}
+use Rattle.rules.specs.Session.{View, State, printable, cells, x3Cells, withX3, lineTakesKeys, viewOf, cursorCell, screenEnd, withCursor, withModes, withFrame, withAttrs}
 use Rattle.rules.specs.Effect.{Effect, Executed, Change, Part, changedAll, changing, saying, quiet}
 use Rattle.rules.specs.Command.{Row, rows, Listed, listed, unlisted, rowOf, codeIn, parameter, formatCount, valueFault, faultOf}
 use Rattle.rules.specs.Cursor.{cursorGuarded}
-use Rattle.rules.specs.Telnet.{negotiated, hostCharacter, hostCharacters, hostData}
+use Rattle.rules.specs.Telnet.{isOn, accepts, turned, switchedOn, switchedOff, negotiated, hostCharacter, hostCharacters, hostData, hostText}
+use Rattle.rules.specs.Pad.{empties, padAfter, padTyped, echoedAt, passes}
 use Rattle.rules.specs.Subcommand.{transmitted, erasure, suppressing, obeyed, judged, looked, subcommand}
-use Rattle.rules.specs.Key.{keyOf, pressed}
+use Rattle.rules.specs.Key.{meaningOf, keyOf, pressed, padPressed}
 use Rattle.rules.specs.Refusal.{isTaken}
 use Rattle.rules.specs.Operation.{happening, hostByte, applied, running, unless, hostBytes, hostRefusal, oneKey, keyRefusal}
 use Rattle.rules.specs.Call.{host, key, called}
 use Rattle.rules.specs.Executed.{oneOf}
-use Rattle.rules.specs.Causes.{Aspect, attributes, det, suppression, characters, cursor, Same, changers, byte, execution, negotiation, keystroke, mayChange, commandCause, causeOf, causesIn, causesOf, noneChanges, NothingElse, ReaderKept}
+use Rattle.rules.specs.Causes.{Aspect, attributes, det, x3, suppression, characters, cursor, values, line, Same, changers, byte, execution, negotiation, keystroke, typing, mayChange, commandCause, messageCause, causeOf, causesIn, keyCause, causesOf, noneChanges, NothingElse, ReaderKept}
 use Rattle.rules.proofs.All.{All, all-append, all-equal}
 use Rattle.rules.proofs.Rows.{in-list, found-code}
+use Rattle.rules.proofs.Options.{by-option}
 -- what a call executes is checked first
 use Rattle.rules.proofs.Executed.{seven}
 
@@ -42,19 +56,27 @@ use Rattle.rules.proofs.Executed.{seven}
 record Leaves (may : Aspect → Bool) (v : View) (e : Effect) : Type 0 where
   the-attributes : may attributes ≡ false → e .view .attrs ≡ v .attrs
   the-det : may det ≡ false → e .view .frame .det ≡ v .frame .det
+  the-x3 : may x3 ≡ false → e .view .frame .x3 ≡ v .frame .x3
   the-suppression : may suppression ≡ false → e .view .frame .suppressed ≡ v .frame .suppressed
   the-characters : may characters ≡ false → e .changes ≡ []
   the-cursor : may cursor ≡ false → e .view .frame .cursor ≡ v .frame .cursor
+
+-- and what is left of the PAD
+record LeavesPad (may : Aspect → Bool) (p q : Pad) : Type 0 where
+  the-values : may values ≡ false → q .values ≡ p .values
+  the-line : may line ≡ false → q .line ≡ p .line
 
 -- ---- the kinds of effect
 
 -- the view afterwards, its parts as they were or such that they may change
 abbrev leaving : {may : Aspect → Bool} {v w : View} {cs : List Change} {ps : List Part} {es : List Executed}
     → (may attributes ≡ false → w .attrs ≡ v .attrs) → (may det ≡ false → w .frame .det ≡ v .frame .det)
+    → (may x3 ≡ false → w .frame .x3 ≡ v .frame .x3)
     → (may suppression ≡ false → w .frame .suppressed ≡ v .frame .suppressed) → (may characters ≡ false → cs ≡ [])
     → (may cursor ≡ false → w .frame .cursor ≡ v .frame .cursor)
     → Leaves may v (record { view = w; changes = cs; reply = ps; executed = es })
-leaving a b c d e = record { the-attributes = a; the-det = b; the-suppression = c; the-characters = d; the-cursor = e }
+leaving a b x c d e =
+    record { the-attributes = a; the-det = b; the-x3 = x; the-suppression = c; the-characters = d; the-cursor = e }
 
 same : {b : Bool} {A : Type 0} {x : A} → b ≡ false → x ≡ x
 same e = refl
@@ -62,34 +84,45 @@ same e = refl
 module _ {v : View} {may : Aspect → Bool} where
   -- nothing but a reply
   says : {ps : List Part} → Leaves may v (saying v ps)
-  says = leaving same same same same same
+  says = leaving same same same same same same
 
   moves : {p : Place} {ps : List Part} → may cursor ≡ true → Leaves may v (saying (withCursor v p) ps)
-  moves e = leaving same same same same (not-both _ e)
+  moves e = leaving same same same same same (not-both _ e)
 
   edits : {cs : List Change} → may characters ≡ true → Leaves may v (changing v cs)
-  edits e = leaving same same same (not-both _ e) same
+  edits e = leaving same same same same (not-both _ e) same
 
   writes : {p : Place} {cs : List Change} → may characters ≡ true → may cursor ≡ true → Leaves may v (changing (withCursor v p) cs)
-  writes e d = leaving same same same (not-both _ e) (not-both _ d)
+  writes e d = leaving same same same same (not-both _ e) (not-both _ d)
 
   formats : {attrs : List ℕ} → may attributes ≡ true → Leaves may v (quiet (withAttrs v attrs))
-  formats e = leaving (not-both _ e) same same same same
+  formats e = leaving (not-both _ e) same same same same same
 
-  -- suppression, DET, or both
+  -- suppression, DET, or both; option 30
   suppresses : {off : Bool} {ps : List Part} → may suppression ≡ true → Leaves may v (saying (withModes v (v .frame .det) off) ps)
-  suppresses e = leaving same same (not-both _ e) same same
+  suppresses e = leaving same same same (not-both _ e) same same
 
   switches : {on : Bool} {ps : List Part} → may det ≡ true → Leaves may v (saying (withModes v on (v .frame .suppressed)) ps)
-  switches e = leaving same (not-both _ e) same same same
+  switches e = leaving same (not-both _ e) same same same same
 
   resets : {on off : Bool} {ps : List Part} → may det ≡ true → may suppression ≡ true → Leaves may v (saying (withModes v on off) ps)
-  resets e d = leaving same (not-both _ e) (not-both _ d) same same
+  resets e d = leaving same (not-both _ e) same (not-both _ d) same same
+
+  turns : {on : Bool} {ps : List Part} → may x3 ≡ true → Leaves may v (saying (withFrame v (withX3 (v .frame) on)) ps)
+  turns e = leaving same same (not-both _ e) same same same
 
   -- 29: a blank screen
   clears : {p : Place} {attrs : List ℕ} {cs : List Change} → may attributes ≡ true → may characters ≡ true → may cursor ≡ true
       → Leaves may v (changing (withAttrs (withCursor v p) attrs) cs)
-  clears e d c = leaving (not-both _ e) same same (not-both _ d) (not-both _ c)
+  clears e d c = leaving (not-both _ e) same same same (not-both _ d) (not-both _ c)
+
+-- a code that is neither SET nor RESPONSE-SET
+not-set : (code : ℕ) → oneOf (0 ∷ 1 ∷ []) code ≡ false → isSet code ≡ false
+unfolding oneOf
+not-set code h =
+    true-or-false (eqb code 0) (λ e. not-both _ (rw e) h)
+    (λ e. true-or-false (eqb code 1) (λ f. not-both _ (rw (e, f)) h)
+    (λ f. lt-leb code 1 (omega (arith, eqb-false code 0 e, eqb-false code 1 f))))
 
 -- ---- characters from the host
 
@@ -98,14 +131,29 @@ module _ {may : Aspect → Bool} (e : may characters ≡ true) (d : may cursor �
   unfolding hostCharacter
   leaves-character v c = either (Leaves may v) (cursorGuarded v) (λ g. says) (λ g. writes e d)
 
+  -- one effect after another, of those that may change both
+  leaves-then : {v : View} (one rest : Effect) {ps : List Part} {es : List Executed} → Leaves may v one → Leaves may (one .view) rest
+      → Leaves may v (record { view = rest .view; changes = one .changes ++ rest .changes; reply = ps; executed = es })
+  leaves-then one rest a b =
+      leaving (λ h. b .the-attributes h ∙ a .the-attributes h) (λ h. b .the-det h ∙ a .the-det h) (λ h. b .the-x3 h ∙ a .the-x3 h)
+      (λ h. b .the-suppression h ∙ a .the-suppression h) (not-both _ e) (not-both _ d)
+
   leaves-characters : (n : ℕ) (v : View) (c : ℕ) → Leaves may v (hostCharacters n v c)
   unfolding hostCharacters
   leaves-characters zero v c = says
-  leaves-characters (suc n) v c =
-      let one = leaves-character v c in
-      let rest = leaves-characters n ((hostCharacter v c) .view) c in
-      leaving (λ h. rest .the-attributes h ∙ one .the-attributes h) (λ h. rest .the-det h ∙ one .the-det h)
-      (λ h. rest .the-suppression h ∙ one .the-suppression h) (not-both _ e) (not-both _ d)
+  leaves-characters (suc n) v c = leaves-then (hostCharacter v c) _ (leaves-character v c) (leaves-characters n ((hostCharacter v c) .view) c)
+
+  leaves-any : (v : View) (b : ℕ) → Leaves may v (hostData v b)
+  unfolding hostData
+  leaves-any v b =
+      either (Leaves may v) (printable b) (λ q. leaves-character v b)
+      (λ q. either (Leaves may v) (eqb b 13) (λ q. moves d)
+      (λ q. either (Leaves may v) (eqb b 10) (λ q. moves d) (λ q. either (Leaves may v) (eqb b 8) (λ q. moves d) (λ q. says))))
+
+  leaves-text : (bs : List ℕ) (v : View) → Leaves may v (hostText v bs)
+  unfolding hostText
+  leaves-text [] v = says
+  leaves-text (b ∷ bs) v = leaves-then (hostData v b) _ (leaves-any v b) (leaves-text bs ((hostData v b) .view))
 
 -- ---- a subcommand
 
@@ -185,7 +233,7 @@ module _ (v : View) (h : Held) where
 
   leaves-judged : (r : Row) → LeavesRow r → (f : Fault) → (f ≡ OffScreen → eqb (codeIn h) 5 ≡ true) → LeavesCommand (judged v r h f)
   unfolding judged commandCause mayChange changers oneOf
-  leaves-judged r k NoFault l = leaving (k .the-attributes) (k .the-det) (k .the-suppression) (k .the-characters) (k .the-cursor)
+  leaves-judged r k NoFault l = leaving (k .the-attributes) (k .the-det) (k .the-x3) (k .the-suppression) (k .the-characters) (k .the-cursor)
   leaves-judged r k OffScreen l = moves (rw (l refl))
   leaves-judged r k UnknownCode l = says
   leaves-judged r k TooManyParameters l = says
@@ -218,74 +266,174 @@ module _ (v : View) where
       (λ e. either L (eqb b 10) (λ f. moves (rw (q, e, f))) (λ f. either L (eqb b 8) (λ g. moves (rw (q, e, f, g))) (λ g. says))))
 
   leaves-negotiated : (verb : Verb) (option : ℕ) → Leaves (λ a. mayChange a (negotiation verb option)) v (negotiated v verb option)
-  unfolding negotiated mayChange changers oneOf
+  unfolding negotiated switchedOn switchedOff isOn accepts turned mayChange changers oneOf
   leaves-negotiated Will option = says
   leaves-negotiated Wont option = says
   leaves-negotiated Do option =
       let L : Effect → Type 0 = Leaves (λ a. mayChange a (negotiation Do option)) v in
-      either L (not (eqb option 20)) (λ q. says)
-      (λ q. either L (v .frame .det) (λ e. says) (λ e. switches (rw (not-false (eqb option 20) q))))
+      by-option (λ o. L (switchedOn v o option)) option
+      (λ e. either L (v .frame .det) (λ q. says) (λ q. switches (rw e)))
+      (λ e. either L (v .frame .x3) (λ q. says) (λ q. either L (leb x3Cells (cells (v .frame))) (λ q. turns (rw e)) (λ q. says)))
+      says
   leaves-negotiated Dont option =
-      either (Leaves (λ a. mayChange a (negotiation Dont option)) v) (eqb option 20 && v .frame .det)
-      (λ q. let e = and-left (eqb option 20) _ q in resets (rw e) (rw e)) (λ q. says)
+      let L : Effect → Type 0 = Leaves (λ a. mayChange a (negotiation Dont option)) v in
+      by-option (λ o. L (switchedOff v o option)) option
+      (λ e. either L (v .frame .det) (λ q. resets (rw e) (rw e)) (λ q. says))
+      (λ e. either L (v .frame .x3) (λ q. turns (rw e)) (λ q. says))
+      says
 
-  leaves-event : (h : Held) (e : Event) → Leaves (λ a. mayChange a (causeOf v h e)) v (happening v h e)
-  unfolding happening causeOf
-  leaves-event h Nothing = says
-  leaves-event h (Data b) = leaves-data b
-  leaves-event h (Negotiation verb option) = leaves-negotiated verb option
-  leaves-event h (Begin option) = says
-  leaves-event h (Sub option b) = says
-  leaves-event h (End option) =
-      true-or-false (eqb option 20 && v .frame .det) (λ q. rw q (leaves-subcommand v h)) (λ q. rw q says)
-  leaves-event h EndBare = says
-  leaves-event h Lost = says
+  module _ (r : Reader) (p : Pad) where
+    leaves-event : (e : Event) → Leaves (λ a. mayChange a (causeOf v r p e)) v (happening v r p e)
+    unfolding happening causeOf
+    leaves-event Nothing = says
+    leaves-event (Data b) =
+        either (Leaves (λ a. mayChange a (byte b)) v) (passes (v .frame) p (r .cr) b) (λ q. says) (λ q. leaves-data b)
+    leaves-event (Negotiation verb option) = leaves-negotiated verb option
+    leaves-event (Begin option) = says
+    leaves-event (Sub option b) = says
+    leaves-event (End option) =
+        true-or-false (eqb option 20 && v .frame .det) (λ q. rw q (leaves-subcommand v (r .held))) (λ q. rw q says)
+    leaves-event EndBare = says
+    leaves-event Lost = says
+
+    -- ---- the PAD
+
+    pad-emptied : (verb : Verb) (option : ℕ) → mayChange line (negotiation verb option) ≡ false
+        → (padAfter (v .frame) p (Negotiation verb option)) .line ≡ p .line
+    unfolding padAfter empties mayChange changers oneOf
+    pad-emptied Dont option h =
+        either (λ l. l ≡ p .line) (eqb option 30 && v .frame .x3) (λ q. not-both _ (rw (and-left (eqb option 30) _ q)) h) (λ q. refl)
+    pad-emptied Do option h = refl
+    pad-emptied Will option h = refl
+    pad-emptied Wont option h = refl
+
+    -- a message that comes into force is a SET or a RESPONSE-SET
+    pad-kept : (option : ℕ) → mayChange values (causeOf v r p (End option)) ≡ false → (padAfter (v .frame) p (End option)) .values ≡ p .values
+    unfolding padAfter causeOf ended mayChange changers oneOf messageCause
+    pad-kept option =
+        true-or-false (eqb option 20 && v .frame .det)
+        (λ q h. rw (eqb-true option 20 (and-left (eqb option 20) _ q)))
+        (λ q. true-or-false (eqb option 30 && v .frame .x3) (λ c. rw (q, c) (kept (p .message .stage) refl)) (λ c h. rw c))
+      where
+        kept : (at : Stage) → p .message .stage ≡ at → mayChange values (messageCause at) ≡ false → (ended (p .values) (p .message)) .values ≡ p .values
+        kept Code e h = rw e
+        kept (Parameter code) e h = rw (e, not-set code h)
+        kept (Value code parameter) e h = rw e
+
+    leaves-pad : (e : Event) → LeavesPad (λ a. mayChange a (causeOf v r p e)) p (padAfter (v .frame) p e)
+    unfolding padAfter causeOf
+    leaves-pad Nothing = record { the-values = same; the-line = same }
+    leaves-pad (Data b) = record { the-values = same; the-line = same }
+    leaves-pad (Negotiation verb option) = record { the-values = same; the-line = pad-emptied verb option }
+    leaves-pad (Begin option) = record { the-values = same; the-line = same }
+    leaves-pad (Sub option b) = record { the-values = same; the-line = same }
+    leaves-pad (End option) = record { the-values = pad-kept option; the-line = same }
+    leaves-pad EndBare = record { the-values = same; the-line = same }
+    leaves-pad Lost = record { the-values = same; the-line = same }
 
   -- ---- a key
 
-  leaves-key : (k : ℕ) → Leaves (λ a. mayChange a (keystroke k)) v (pressed v (keyOf k))
-  unfolding keyOf pressed transmitted mayChange changers oneOf
-  leaves-key k =
-      let L : Key → Type 0 = λ key. Leaves (λ a. mayChange a (keystroke k)) v (pressed v key) in
+  leaves-meaning : (p : Pad) (k : ℕ) → Leaves (λ a. mayChange a (keystroke k)) v (pressed v p (meaningOf k))
+  unfolding meaningOf pressed transmitted mayChange changers oneOf
+  leaves-meaning p k =
+      let L : Key → Type 0 = λ key. Leaves (λ a. mayChange a (keystroke k)) v (pressed v p key) in
       either L (printable k) (λ q. writes (rw q) (rw q))
       (λ q. either L (eqb k 8) (λ e. moves (rw (q, e)))
       (λ e. either L (eqb k 9) (λ f. moves (rw (q, e, f)))
       (λ f. either L (eqb k 13) (λ g. moves (rw (q, e, f, g)))
       (λ g. either L (eqb k 127) (λ i. edits (rw (q, i))) (λ i. either L (between 128 143 k) (λ j. says) (λ j. says))))))
 
+  -- 0 is no edit key, and its echo is no character
+  zero-echo : (p : Pad) → hostText v (echoedAt p 0) ≡ quiet v
+  unfolding echoOf echoBy kindOf plainEcho keyEcho bytesOf hostText hostData
+  zero-echo p =
+      let vs = p .values in
+      let text = textOf (p .line) in
+      let E : Echo → Type 0 = λ e. hostText v (bytesOf e text) ≡ quiet v in
+      let echo : E (keyEcho vs 0) = either E (not (echoed vs (echoSet 0))) (λ q. refl) (λ q. refl) in
+      rw (and-off (eqb (valueOf vs 15) 1))
+      (either (λ kind. E (echoBy kind vs text 0)) (forwards vs 0) (λ q. echo) (λ q. either E (full text) (λ q. refl) (λ q. echo)))
+
+  leaves-typed : (p : Pad) (k : ℕ) → ltb k 128 ≡ true → Leaves (λ a. mayChange a (typing k)) v (pressed v p (ToLine k))
+  unfolding pressed mayChange changers
+  leaves-typed p k h =
+      true-or-false (eqb k 0)
+      (λ e. rw (eqb-true k 0 e, zero-echo p) says)
+      (λ e.
+      let some : between 1 127 k ≡ true = in-between 1 127 k (omega (arith, eqb-false k 0 e)) (omega (arith, ltb-true k 128 h)) in
+      let text = leaves-text {may = λ a. mayChange a (typing k)} some some (echoedAt p k) v in
+      leaving (text .the-attributes) (text .the-det) (text .the-x3) (text .the-suppression) (text .the-characters) (text .the-cursor))
+
+  leaves-key : (p : Pad) (k : ℕ) → Leaves (λ a. mayChange a (keyCause (v .frame) k)) v (pressed v p (keyOf (v .frame) k))
+  unfolding keyOf keyCause
+  leaves-key p k =
+      true-or-false (lineTakesKeys (v .frame) && ltb k 128)
+      (λ e. rw e (leaves-typed p k (and-right (lineTakesKeys (v .frame)) _ e))) (λ e. rw e (leaves-meaning p k))
+
+  meaning-pad : (p : Pad) (k : ℕ) → padPressed p (meaningOf k) ≡ p
+  unfolding meaningOf padPressed
+  meaning-pad p k =
+      let K : Key → Type 0 = λ key. padPressed p key ≡ p in
+      either K (printable k) (λ q. refl)
+      (λ q. either K (eqb k 8) (λ q. refl)
+      (λ q. either K (eqb k 9) (λ q. refl)
+      (λ q. either K (eqb k 13) (λ q. refl)
+      (λ q. either K (eqb k 127) (λ q. refl) (λ q. either K (between 128 143 k) (λ q. refl) (λ q. refl))))))
+
+  key-pad : (p : Pad) (k : ℕ) → LeavesPad (λ a. mayChange a (keyCause (v .frame) k)) p (padPressed p (keyOf (v .frame) k))
+  unfolding keyOf keyCause padPressed padTyped mayChange changers
+  key-pad p k =
+      true-or-false (lineTakesKeys (v .frame) && ltb k 128)
+      (λ e.
+      let typed : between 0 127 k ≡ true =
+      in-between 0 127 k (omega arith) (omega (arith, ltb-true k 128 (and-right (lineTakesKeys (v .frame)) _ e))) in
+      rw e (record { the-values = same; the-line = not-both _ typed }))
+      (λ e. rw (e, meaning-pad p k) (record { the-values = same; the-line = same }))
+
 -- ---- from an effect to a call
 
-same-applied : (a : Aspect) {may : Aspect → Bool} (s : State) (r : Reader) (e : Effect) → may a ≡ false → Leaves may (viewOf s) e
-    → Same a s ((applied s r e) .state)
+same-applied : (a : Aspect) {may : Aspect → Bool} (s : State) (r : Reader) (p : Pad) (e : Effect) → may a ≡ false → Leaves may (viewOf s) e
+    → LeavesPad may (s .session .pad) p → Same a s ((applied s r p e) .state)
 unfolding changedAll
-same-applied attributes s r e h k = k .the-attributes h
-same-applied det s r e h k = k .the-det h
-same-applied suppression s r e h k = k .the-suppression h
-same-applied characters s r e h k = rw (k .the-characters h)
-same-applied cursor s r e h k = k .the-cursor h
+same-applied attributes s r p e h k l = k .the-attributes h
+same-applied det s r p e h k l = k .the-det h
+same-applied x3 s r p e h k l = k .the-x3 h
+same-applied suppression s r p e h k l = k .the-suppression h
+same-applied characters s r p e h k l = rw (k .the-characters h)
+same-applied cursor s r p e h k l = k .the-cursor h
+same-applied values s r p e h k l = l .the-values h
+same-applied line s r p e h k l = l .the-line h
 
 -- nothing changed, and one change after the other
 same-refl : (a : Aspect) (s : State) → Same a s s
 same-refl attributes s = refl
 same-refl det s = refl
+same-refl x3 s = refl
 same-refl suppression s = refl
 same-refl characters s = refl
 same-refl cursor s = refl
+same-refl values s = refl
+same-refl line s = refl
 
 same-then : (a : Aspect) (s t u : State) → Same a s t → Same a t u → Same a s u
 same-then attributes s t u p q = q ∙ p
 same-then det s t u p q = q ∙ p
+same-then x3 s t u p q = q ∙ p
 same-then suppression s t u p q = q ∙ p
 same-then characters s t u p q = q ∙ p
 same-then cursor s t u p q = q ∙ p
+same-then values s t u p q = q ∙ p
+same-then line s t u p q = q ∙ p
 
 same-run : (a : Aspect) (s : State) (bs : List ℕ) → noneChanges a (causesIn s bs) ≡ true → Same a s ((running s bs) .state)
 unfolding running hostByte causesIn noneChanges
 same-run a s [] n = same-refl a s
 same-run a s (b ∷ bs) n =
-    let may = mayChange a (causeOf (viewOf s) (s .session .reader .held) ((readOf (s .session .reader .phase) b) .event)) in
+    let r = s .session .reader in
+    let p = s .session .pad in
+    let may = mayChange a (causeOf (viewOf s) r p ((readOf (r .phase) b) .event)) in
     same-then a s ((hostByte s b) .state) _
-    (same-applied a s _ _ (not-true _ (and-left (not may) _ n)) (leaves-event (viewOf s) (s .session .reader .held) _))
+    (same-applied a s _ _ _ (not-true _ (and-left (not may) _ n)) (leaves-event (viewOf s) r p _) (leaves-pad (viewOf s) r p _))
     (same-run a _ bs (and-right (not may) _ n))
 
 pub nothing-else : NothingElse
@@ -293,8 +441,11 @@ unfolding called hostBytes oneKey unless causesOf noneChanges
 nothing-else a s (host input reply) =
     true-or-false (isTaken (hostRefusal s reply)) (λ e. rw e (λ n. same-run a s _ n)) (λ e. rw e (λ n. same-refl a s))
 nothing-else a s (key k reply) =
+    let p = s .session .pad in
+    let may = mayChange a (keyCause (s .session .frame) k) in
     true-or-false (isTaken (keyRefusal s reply k))
-    (λ e. rw e (λ n. same-applied a s _ _ (not-true _ (and-left (not (mayChange a (keystroke k))) _ n)) (leaves-key (viewOf s) k)))
+    (λ e. rw e
+    (λ n. same-applied a s _ _ _ (not-true _ (and-left (not may) _ n)) (leaves-key (viewOf s) p k) (key-pad (viewOf s) p k)))
     (λ e. rw e (λ n. same-refl a s))
 
 pub reader-kept : ReaderKept

@@ -7,14 +7,17 @@ use Prim.Native.String.{String}
 use lib.Dec.{eqb}
 use lib.ListN.{replicate}
 use Rattle.telnet.specs.Writer.{subnegotiation}
-use Rattle.screen.specs.Words.{if_then_else_}
+use Rattle.words.specs.Words.{if_then_else_}
 use Rattle.screen.specs.Cells.{cellOf}
-use Rattle.rules.specs.Session.{State}
+use Rattle.pad.specs.Parameters.{startValues}
+use Rattle.pad.specs.Line.{lineOf}
+use Rattle.pad.specs.Message.{withPairs, idleMessage}
+use Rattle.rules.specs.Session.{State, padWith}
 use Rattle.rules.specs.Call.{Call, host, key, called, left}
 use Rattle.rules.specs.Executed.{oneOf}
-use Rattle.rules.specs.Causes.{Aspect, attributes, det, suppression, characters, cursor, changers}
+use Rattle.rules.specs.Causes.{Aspect, attributes, det, x3, suppression, characters, cursor, values, line, changers}
 use Rattle.rules.specs.cases.Computing.{computing}
-use Rattle.rules.specs.cases.Vocabulary.{bit, same, failures, starting, modes, seeing}
+use Rattle.rules.specs.cases.Vocabulary.{flag, same, failures, starting, modes, editing, padded, seeing}
 use Rattle.rules.specs.cases.Vocabulary as word
 -- that nothing else changes it is checked first
 use Rattle.rules.proofs.Causes.{nothing-else}
@@ -28,10 +31,13 @@ start = starts "abcdefghijkl"
 
 unfoldable pub differs : Aspect → State → State → Bool
 differs attributes s t = not (same (s .screen .attrs) (t .screen .attrs))
-differs det s t = not (eqb (bit (s .session .frame .det)) (bit (t .session .frame .det)))
-differs suppression s t = not (eqb (bit (s .session .frame .suppressed)) (bit (t .session .frame .suppressed)))
+differs det s t = not (eqb (flag (s .session .frame .det)) (flag (t .session .frame .det)))
+differs x3 s t = not (eqb (flag (s .session .frame .x3)) (flag (t .session .frame .x3)))
+differs suppression s t = not (eqb (flag (s .session .frame .suppressed)) (flag (t .session .frame .suppressed)))
 differs characters s t = not (same (s .screen .chars) (t .screen .chars))
 differs cursor s t = not (eqb (cellOf 4 (s .session .frame .cursor)) (cellOf 4 (t .session .frame .cursor)))
+differs values s t = not (same (s .session .pad .values .held) (t .session .pad .values .held))
+differs line s t = not (eqb (s .session .pad .line .len) (t .session .pad .line .len))
 
 -- a call with the least reply room, 86, changes it
 abbrev changes : Aspect → State → (List ℕ → Call) → Bool
@@ -55,9 +61,22 @@ command code =
 abbrev failing : ℕ → List ℕ → Call
 failing code = host (subnegotiation 20 (code ∷ 9 ∷ 9 ∷ []))
 
--- a negotiation of option 20: DO where DET is off, DONT where it is on
+-- 37 cells in a row, option 30 on or off and DET off, "ab" in the edit line, and a key that deletes its last character and echoes a star
+abbrev wide : Bool → ℕ → State
+wide on k =
+    padded
+    (padWith (withPairs startValues (2 ∷ 1 ∷ 15 ∷ 1 ∷ 16 ∷ k ∷ 19 ∷ 42 ∷ [])) (lineOf (word.characters "ab")) idleMessage)
+    (editing on (modes false false (starting 37 1 false (replicate 37 97) (replicate 37 0) 1 0)))
+
+-- a call with the least reply room, 261, changes it
+abbrev changesWide : Aspect → State → (List ℕ → Call) → Bool
+changesWide a s call = differs a s (left (called s (call (replicate 261 0))))
+
+-- a negotiation: DO where the option is off, DONT where it is on
 abbrev negotiates : Aspect → ℕ → Bool
-negotiates a verb = changes a (if eqb verb 253 then modes false true start else start) (host (255 ∷ verb ∷ 20 ∷ []))
+negotiates a verb =
+    if eqb (changers a .option) 30 then changesWide a (wide (eqb verb 254) 8) (host (255 ∷ verb ∷ 30 ∷ []))
+    else changes a (if eqb verb 253 then modes false true start else start) (host (255 ∷ verb ∷ 20 ∷ []))
 
 -- those of a list that change nothing
 unfoldable pub idle : (ℕ → Bool) → List ℕ → List ℕ
@@ -69,12 +88,17 @@ pub record EachChanges (a : Aspect) : Type 0 where
   pub executed : idle (λ code. changes a start (command code)) (changers a .executed) ≡ []
   pub failed : idle (λ code. changes a start (failing code)) (changers a .failed) ≡ []
   pub verbs : idle (negotiates a) (changers a .verbs) ≡ []
+  pub messages : idle (λ code. changesWide a (wide true 8) (host (subnegotiation 30 (code ∷ 3 ∷ 2 ∷ [])))) (changers a .messages) ≡ []
   pub keys : failures (λ k. not (changers a .keys k) || changesOne a (key k)) 256 ≡ []
+  pub typed : failures (λ k. not (changers a .typed k) || changesWide a (wide true k) (key k)) 256 ≡ []
 
 pub each-changes : (a : Aspect) → EachChanges a
 unfolding computing seeing oneOf changers differs idle
-each-changes attributes = record { text = refl; executed = refl; failed = refl; verbs = refl; keys = refl }
-each-changes det = record { text = refl; executed = refl; failed = refl; verbs = refl; keys = refl }
-each-changes suppression = record { text = refl; executed = refl; failed = refl; verbs = refl; keys = refl }
-each-changes characters = record { text = refl; executed = refl; failed = refl; verbs = refl; keys = refl }
-each-changes cursor = record { text = refl; executed = refl; failed = refl; verbs = refl; keys = refl }
+each-changes attributes = record { text = refl; executed = refl; failed = refl; verbs = refl; messages = refl; keys = refl; typed = refl }
+each-changes det = record { text = refl; executed = refl; failed = refl; verbs = refl; messages = refl; keys = refl; typed = refl }
+each-changes x3 = record { text = refl; executed = refl; failed = refl; verbs = refl; messages = refl; keys = refl; typed = refl }
+each-changes suppression = record { text = refl; executed = refl; failed = refl; verbs = refl; messages = refl; keys = refl; typed = refl }
+each-changes characters = record { text = refl; executed = refl; failed = refl; verbs = refl; messages = refl; keys = refl; typed = refl }
+each-changes cursor = record { text = refl; executed = refl; failed = refl; verbs = refl; messages = refl; keys = refl; typed = refl }
+each-changes values = record { text = refl; executed = refl; failed = refl; verbs = refl; messages = refl; keys = refl; typed = refl }
+each-changes line = record { text = refl; executed = refl; failed = refl; verbs = refl; messages = refl; keys = refl; typed = refl }

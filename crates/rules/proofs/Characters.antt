@@ -5,12 +5,13 @@ use mathlib.Core.List.{List, [], _∷_, _++_}
 use Prim.Native.Nat.{ℕ, zero, suc, _+_, _-_}
 use lib.Dec.{ltb}
 use lib.ListN.{length, getD, set, take, drop, length-set, take-append-drop}
-use Rattle.screen.specs.Words.{if_then_else_, inRange, tabulate}
+use Rattle.words.specs.Words.{if_then_else_, tabulate}
+use Rattle.screen.specs.Words.{inRange}
 use Rattle.screen.specs.Attributes.{guardedAt}
 use Rattle.edit.specs.declared.range.Shift.{Shift}
 use Rattle.edit.specs.declared.range.Shift.the-variants.{Insertion, Deletion}
 use Rattle.edit.specs.Edits.{lies, deleted, inserted, shifted, onPart, erased}
-use Rattle.screen.proofs.WordLaws.{either, and-left, and-right, both}
+use Rattle.words.proofs.Laws.{either, and-left, and-right, both}
 use Rattle.edit.proofs.EditLaws.{shifted-length, erased-length, onPart-length}
 use Rattle.rules.specs.Session.{printable, allPrintable}
 use Rattle.rules.specs.Effect.{Change, put, erase, shift, changed, changedAll}

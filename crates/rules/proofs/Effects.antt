@@ -1,10 +1,11 @@
 -- What every effect keeps: the size of the screen, the cursor on it, printable characters, a reply within the room.
 use mathlib.Core.Path.{_≡_, refl}
-use mathlib.Core.Bool.{Bool, true, false, not, _&&_}
+use mathlib.Core.Bool.{Bool, true, false, _&&_}
 use mathlib.Core.List.{List, [], _∷_}
 use Prim.Native.Nat.{ℕ, zero, suc, _*_, _≤_, _<_}
 use native.Mathlib.Omega.{arith}
-use lib.Dec.{eqb}
+use borrow.Author.Tests.{leb-true, ltb-true}
+use lib.Dec.{leb, ltb, eqb}
 use lib.ListN.{length, length-replicate}
 use Rattle.telnet.specs.declared.Verb.{Verb}
 use Rattle.telnet.specs.declared.Verb.the-variants.{Will, Wont, Do, Dont}
@@ -14,11 +15,15 @@ use Rattle.telnet.specs.Writer.{doubled, subnegotiation, negotiation}
 use Rattle.edit.specs.declared.range.Shift.{Shift}
 use Rattle.edit.specs.declared.range.Shift.the-variants.{Deletion}
 use Rattle.screen.specs.declared.cell.Place.{Place}
-use Rattle.screen.specs.Words.{if_then_else_, between}
+use Rattle.words.specs.Words.{if_then_else_, between}
 use Rattle.screen.specs.Cells.{placeOf}
-use Rattle.screen.proofs.WordLaws.{either}
+use Rattle.words.proofs.Laws.{either, not-both, and-left, and-right}
 use Rattle.edit.proofs.EditLaws.{formatted-length}
+use Rattle.pad.specs.Message.{ended}
 use Rattle.rules.specs.declared.Held.{Held}
+use Rattle.rules.specs.declared.Frame.{Frame}
+use Rattle.rules.specs.declared.Reader.{Reader}
+use Rattle.rules.specs.declared.Pad.{Pad}
 use Rattle.rules.specs.declared.Facility.{Facility}
 use Rattle.rules.specs.declared.Facility.the-variants.{Editing, Erasing, Transmitting, Formatting}
 use Rattle.rules.specs.declared.Destination.the-variants.{Down, Left, Corner, LineStart, NextLine, NextCell, FirstField, NextField, NextOpen, PreviousOpen}
@@ -29,20 +34,23 @@ use Rattle.rules.specs.declared.Command.the-variants.{Facilities, MoveCu
 use Rattle.rules.specs.declared.Fault.{Fault}
 use Rattle.rules.specs.declared.Fault.the-variants.{NoFault, UnknownCode, OffScreen, TooManyParameters, TooFewParameters, BadValue, BadMap}
 use Rattle.rules.specs.declared.Key.{Key}
-use Rattle.rules.specs.declared.Key.the-variants.{Typed, Back, Tab, Send, Delete, Function, Meaningless}
-use Rattle.rules.specs.Session.{View, printable}
+use Rattle.rules.specs.declared.Key.the-variants.{Typed, Back, Tab, Send, Delete, Function, ToLine, Meaningless}
+use Rattle.rules.specs.Session.{View, printable, cells, x3Cells, padOk, lineTakesKeys}
 use Rattle.rules.specs.Effect.{Effect, Change, Part, bytes, text, changedAll, message, changing, saying, quiet}
 use Rattle.rules.specs.Number.{detOption, dataTransmit, cursorPosition, error, ownMap}
 use Rattle.rules.specs.Cursor.{cursorGuarded, destination}
-use Rattle.rules.specs.Telnet.{negotiated, hostCharacter, hostCharacters, hostData}
+use Rattle.rules.specs.Telnet.{isOn, accepts, turned, switchedOn, switchedOff, negotiated, hostCharacter, hostCharacters, hostData, hostText}
+use Rattle.rules.specs.Pad.{isX3, counts, response, sentAt, echoedAt, passes}
 use Rattle.rules.specs.Command.{Row, Listed, listed, unlisted, parameter, placeIn, valueFault, faultOf}
 use Rattle.rules.specs.Subcommand.{preface, unlessGuarded, fieldFrom, transmitted, erasure, shifting, suppressing, obeyed, judged, looked, subcommand}
-use Rattle.rules.specs.Key.{keyOf, pressed}
+use Rattle.rules.specs.Key.{meaningOf, keyOf, pressed}
 use Rattle.rules.specs.Operation.{happening}
 use Rattle.rules.proofs.Characters.{Text, Fine, text-changed, changed-append}
 use Rattle.rules.proofs.Errors.{no-fault}
-use Rattle.rules.proofs.Replies.{InRoom, Follows, fits-nothing, fits-bytes, fits-prefaced, place-message, error-message, function-message, one-text, no-text, fields-text}
-use Rattle.rules.proofs.Views.{On, SoundView, at-place, switched, attributed, limited-on, place-on, some, field-lt, cursor-lt, destination-on, goes}
+use Rattle.rules.proofs.Options.{by-option}
+use Rattle.rules.proofs.Pads.{sent-most}
+use Rattle.rules.proofs.Replies.{InRoom, Follows, fits-nothing, fits-bytes, fits-within, fits-prefaced, place-message, error-message, function-message, response-message, one-text, no-text, fields-text}
+use Rattle.rules.proofs.Views.{On, SoundView, at-place, switched, turned-x3, attributed, limited-on, place-on, some, field-lt, cursor-lt, destination-on, goes}
 
 -- what an effect keeps on a screen m cells wide and n lines high
 pub record Keeps (m n : ℕ) (e : Effect) : Type 0 where
@@ -99,13 +107,24 @@ module _ {m n : ℕ} {v : View} (k : SoundView m n v) where
       (λ q. either (Keeps m n) (eqb b 10) (λ q. quietly (goes k Down))
       (λ q. either (Keeps m n) (eqb b 8) (λ q. quietly (goes k Left)) (λ q. quietly k))))
 
+  -- the cells of the frame
+  enough : leb x3Cells (cells (v .frame)) ≡ true → x3Cells ≤ n * m
+  enough e = rw (k .sizes .width, k .sizes .height) at (leb-true x3Cells (cells (v .frame)) e)
+
   keeps-negotiated : (verb : Verb) (option : ℕ) → Keeps m n (negotiated v verb option)
-  unfolding negotiated negotiation
+  unfolding negotiated switchedOn switchedOff isOn accepts turned negotiation
   keeps-negotiated Do option =
-      either (Keeps m n) (not (eqb option detOption)) (λ q. tells k _ (omega arith))
+      by-option (λ o. Keeps m n (switchedOn v o option)) option
       (λ q. either (Keeps m n) (v .frame .det) (λ q. quietly k) (λ q. tells (switched k _ _) _ (omega arith)))
+      (λ q. either (Keeps m n) (v .frame .x3) (λ q. quietly k)
+      (λ q. either (Keeps m n) (leb x3Cells (cells (v .frame))) (λ e. tells (turned-x3 k true (λ t. enough e)) _ (omega arith))
+      (λ q. tells k _ (omega arith))))
+      (tells k _ (omega arith))
   keeps-negotiated Dont option =
-      either (Keeps m n) (eqb option detOption && v .frame .det) (λ q. tells (switched k _ _) _ (omega arith)) (λ q. quietly k)
+      by-option (λ o. Keeps m n (switchedOff v o option)) option
+      (λ q. either (Keeps m n) (v .frame .det) (λ q. tells (switched k _ _) _ (omega arith)) (λ q. quietly k))
+      (λ q. either (Keeps m n) (v .frame .x3) (λ q. tells (turned-x3 k false (λ t. not-both false t refl)) _ (omega arith)) (λ q. quietly k))
+      (quietly k)
   keeps-negotiated Will option = tells k _ (omega arith)
   keeps-negotiated Wont option = quietly k
 
@@ -116,6 +135,19 @@ keeps-characters zero k c p = quietly k
 keeps-characters (suc j) {m} {n} k c p =
     let one = keeps-character k c p in
     let rest = keeps-characters j (one .view) c p in
+    record {
+      view = rest .view;
+      changes = λ attrs chars t. rw changed-append (rest .changes attrs _ (one .changes attrs chars t));
+      reply = fits-nothing m n;
+      executed = omega arith;
+    }
+
+keeps-text : (bs : List ℕ) {m n : ℕ} {v : View} → SoundView m n v → Keeps m n (hostText v bs)
+unfolding hostText
+keeps-text [] k = quietly k
+keeps-text (b ∷ bs) {m} {n} k =
+    let one = keeps-data k b in
+    let rest = keeps-text bs (one .view) in
     record {
       view = rest .view;
       changes = λ attrs chars t. rw changed-append (rest .changes attrs _ (one .changes attrs chars t));
@@ -221,56 +253,83 @@ module _ {m n : ℕ} {v : View} (k : SoundView m n v) where
 
 -- ---- a host byte
 
+keeps-response : {m n : ℕ} {v : View} → SoundView m n v → (p : Pad) (option : ℕ) → Keeps m n (saying v (response (v .frame) p option))
+unfolding response
+keeps-response {m} {n} {v} k p option =
+    let on : Bool = counts (v .frame) option in
+    either (λ ps. Keeps m n (saying v ps)) (on && (ended (p .values) (p .message)) .asked)
+    (λ q. says k _ (fits-within m n _ 119 (response-message (p .values)) (omega (arith, k .x3 (and-right (isX3 option) _ (and-left on _ q))))))
+    (λ q. quietly k)
+
 -- whatever the reader told
-pub keeps-happening : {m n : ℕ} {v : View} → SoundView m n v → (h : Held) (e : Event) → Keeps m n (happening v h e)
+pub keeps-happening : {m n : ℕ} {v : View} → SoundView m n v → (r : Reader) (p : Pad) (e : Event) → Keeps m n (happening v r p e)
 unfolding happening
-keeps-happening k h Nothing = quietly k
-keeps-happening k h (Data b) = keeps-data k b
-keeps-happening k h (Negotiation verb option) = keeps-negotiated k verb option
-keeps-happening k h (Begin option) = quietly k
-keeps-happening k h (Sub option b) = quietly k
-keeps-happening {m} {n} {v} k h (End option) =
-    either (Keeps m n) (eqb option detOption && v .frame .det) (λ q. keeps-subcommand k h) (λ q. quietly k)
-keeps-happening k h EndBare = quietly k
-keeps-happening k h Lost = quietly k
+keeps-happening k r p Nothing = quietly k
+keeps-happening {m} {n} {v} k r p (Data b) = either (Keeps m n) (passes (v .frame) p (r .cr) b) (λ q. quietly k) (λ q. keeps-data k b)
+keeps-happening k r p (Negotiation verb option) = keeps-negotiated k verb option
+keeps-happening k r p (Begin option) = quietly k
+keeps-happening k r p (Sub option b) = quietly k
+keeps-happening {m} {n} {v} k r p (End option) =
+    either (Keeps m n) (eqb option detOption && v .frame .det) (λ q. keeps-subcommand k (r .held)) (λ q. keeps-response k p option)
+keeps-happening k r p EndBare = quietly k
+keeps-happening k r p Lost = quietly k
 
 -- at most one command is executed
-pub executed-one : {m n : ℕ} {v : View} → SoundView m n v → (h : Held) (e : Event) → length ((happening v h e) .executed) ≤ 1
-executed-one k h e = keeps-happening k h e .executed
+pub executed-one : {m n : ℕ} {v : View} → SoundView m n v → (r : Reader) (p : Pad) (e : Event) → length ((happening v r p e) .executed) ≤ 1
+executed-one k r p e = keeps-happening k r p e .executed
 
 -- ---- a key
 
--- only printable characters are typed
-abbrev pub Typable : Key → Type 0
-Typable (Typed c) = printable c ≡ true
-Typable Back = Unit {0}
-Typable Tab = Unit {0}
-Typable Send = Unit {0}
-Typable Delete = Unit {0}
-Typable (Function n) = Unit {0}
-Typable Meaningless = Unit {0}
+-- Only printable characters are typed; the edit line takes 0 to 127, while option 30 is on.
+abbrev pub Typable : Frame → Key → Type 0
+Typable f (Typed c) = printable c ≡ true
+Typable f Back = Unit {0}
+Typable f Tab = Unit {0}
+Typable f Send = Unit {0}
+Typable f Delete = Unit {0}
+Typable f (Function n) = Unit {0}
+Typable f (ToLine k) = (f .x3 ≡ true) × (k < 128)
+Typable f Meaningless = Unit {0}
 
 -- and what a key means is typable
-pub typable : (code : ℕ) → Typable (keyOf code)
-unfolding keyOf
-typable code =
-    either Typable (printable code) (λ p. p)
-    (λ p. either Typable (eqb code 8) (λ p. tt)
-    (λ p. either Typable (eqb code 9) (λ p. tt)
-    (λ p. either Typable (eqb code 13) (λ p. tt)
-    (λ p. either Typable (eqb code 127) (λ p. tt)
-    (λ p. either Typable (between 128 143 code) (λ p. tt) (λ p. tt))))))
+meaning-typable : (f : Frame) (code : ℕ) → Typable f (meaningOf code)
+unfolding meaningOf
+meaning-typable f code =
+    let T : Key → Type 0 = Typable f in
+    either T (printable code) (λ p. p)
+    (λ p. either T (eqb code 8) (λ p. tt)
+    (λ p. either T (eqb code 9) (λ p. tt)
+    (λ p. either T (eqb code 13) (λ p. tt)
+    (λ p. either T (eqb code 127) (λ p. tt)
+    (λ p. either T (between 128 143 code) (λ p. tt) (λ p. tt))))))
 
-keeps-pressed : {m n : ℕ} {v : View} → SoundView m n v → (key : Key) → Typable key → Keeps m n (pressed v key)
+pub typable : (f : Frame) (code : ℕ) → Typable f (keyOf f code)
+unfolding keyOf
+typable f code =
+    either (Typable f) (lineTakesKeys f && ltb code 128)
+    (λ e.
+    let takes = and-left (lineTakesKeys f) _ e in
+    (and-left (f .x3) _ takes, ltb-true code 128 (and-right (lineTakesKeys f) _ e)))
+    (λ e. meaning-typable f code)
+
+keeps-pressed : {m n : ℕ} {v : View} → SoundView m n v → (p : Pad) → padOk p ≡ true → (key : Key) → Typable (v .frame) key → Keeps m n (pressed v p key)
 unfolding pressed
-keeps-pressed k (Typed c) p = changes (goes k NextOpen) _ p
-keeps-pressed k Back p = quietly (goes k PreviousOpen)
-keeps-pressed k Tab p = quietly (goes k NextField)
-keeps-pressed k Send p = keeps-transmitted k Unprotected
-keeps-pressed k Delete p = keeps-shift k Deletion
-keeps-pressed k (Function f) p = tells k _ (function-message f)
-keeps-pressed k Meaningless p = quietly k
+keeps-pressed k p o (Typed c) t = changes (goes k NextOpen) _ t
+keeps-pressed k p o Back t = quietly (goes k PreviousOpen)
+keeps-pressed k p o Tab t = quietly (goes k NextField)
+keeps-pressed k p o Send t = keeps-transmitted k Unprotected
+keeps-pressed k p o Delete t = keeps-shift k Deletion
+keeps-pressed k p o (Function f) t = tells k _ (function-message f)
+keeps-pressed {m} {n} k p o (ToLine code) t =
+    let text = keeps-text (echoedAt p code) k in
+    record {
+      view = text .view;
+      changes = text .changes;
+      reply = fits-within m n _ 258 (sent-most p o code) (omega (arith, k .x3 (t .0)));
+      executed = omega arith;
+    }
+keeps-pressed k p o Meaningless t = quietly k
 
 -- whatever the key
-pub keeps-key : {m n : ℕ} {v : View} → SoundView m n v → (code : ℕ) → Keeps m n (pressed v (keyOf code))
-keeps-key k code = keeps-pressed k (keyOf code) (typable code)
+pub keeps-key : {m n : ℕ} {v : View} → SoundView m n v → (p : Pad) → padOk p ≡ true → (code : ℕ) → Keeps m n (pressed v p (keyOf (v .frame) code))
+keeps-key {v = v} k p o code = keeps-pressed k p o (keyOf (v .frame) code) (typable (v .frame) code)

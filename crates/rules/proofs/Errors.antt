@@ -5,7 +5,7 @@ use Prim.Native.Nat.{ℕ, _+_}
 use native.Mathlib.Omega.{arith}
 use lib.Dec.{ltb, eqb}
 use lib.ListN.{length}
-use Rattle.screen.proofs.WordLaws.{either}
+use Rattle.words.proofs.Laws.{either}
 use Rattle.rules.specs.declared.Held.{Held}
 use Rattle.rules.specs.declared.Command.{Command}
 use Rattle.rules.specs.declared.Fault.{Fault}

@@ -2,31 +2,31 @@
 use mathlib.Core.Path.{_≡_, refl}
 use mathlib.Core.Bool.{Bool, true, false}
 use mathlib.Core.List.{List, [], _∷_, _++_}
-use Prim.Native.Nat.{ℕ, _-_, _<_, min}
+use Prim.Native.Nat.{ℕ, _-_, _<_, min, _*_}
 use borrow.Author.Tests.{eqb-true}
 use lib.Dec.{leb, eqb}
 use lib.ListN.{replicate}
 use Rattle.telnet.specs.declared.Phase.the-variants.{Iac, InsideIac}
 use Rattle.telnet.specs.declared.Verb.the-variants.{Will, Wont, Do, Dont}
 use Rattle.telnet.specs.Writer.{subnegotiation, negotiation}
-use Rattle.screen.specs.Words.{if_then_else_, between}
+use Rattle.words.specs.Words.{if_then_else_, between}
 use Rattle.rules.specs.declared.Held.{Held}
 use Rattle.rules.specs.declared.Facility.the-variants.{Editing, Erasing, Transmitting, Formatting}
 use Rattle.rules.specs.declared.Command.the-variants.{Facilities, Error}
-use Rattle.rules.specs.Session.{View, State, screen, withModes}
+use Rattle.rules.specs.Session.{View, State, withX3, screen, withModes, withFrame}
 use Rattle.rules.specs.Refusal.{numberOf}
 use Rattle.rules.specs.Effect.{bytes, saying, quiet}
 use Rattle.rules.specs.Command.{Listed, listed, unlisted, rowOf, codeIn}
-use Rattle.rules.specs.Telnet.{negotiated}
+use Rattle.rules.specs.Telnet.{optionOf, isOn, accepts, turned, switchedOn, switchedOff, negotiated}
 use Rattle.rules.specs.Subcommand.{obeyed, looked, subcommand}
 use Rattle.rules.specs.Operation.{opened}
 use Rattle.rules.specs.Call.{host, key, called}
 use Rattle.rules.specs.Executed.{oneOf}
 use Rattle.rules.specs.cases.Computing.{computing}
-use Rattle.rules.specs.cases.Vocabulary.{Seen, look, lent, seen, same, failures, Sweep, sweep, SweepsPass, characters, starting, at, modes, reading, showing, attributed, unchanged, seeing}
+use Rattle.rules.specs.cases.Vocabulary.{Seen, look, lent, seen, same, failures, Sweep, sweep, SweepsPass, characters, starting, at, modes, reading, afterCr, showing, attributed, unchanged, seeing}
 use Rattle.rules.proofs.Passing.{same-equal, below-passes, EachEverywhere, each-everywhere}
 -- the worked cases are checked first
-use Rattle.rules.proofs.Shut.{shut-holds}
+use Rattle.rules.proofs.Slow.{slow-holds}
 
 -- IAC SB 20 .. IAC SE
 abbrev det : List ℕ → List ℕ
@@ -96,7 +96,7 @@ dataDoes on b =
     let s = resting on in
     let leaves : State → Seen = λ t. seen 0 1 t [] 44 in
     if between 32 126 b then leaves (at 0 1 (showing (97 ∷ 98 ∷ b ∷ characters "def") s))
-    else if eqb b 13 then leaves (at 0 0 s)
+    else if eqb b 13 then leaves (afterCr true (at 0 0 s))
     else if eqb b 10 then leaves (at 2 1 s)
     else if eqb b 8 then leaves (at 1 0 s)
     else if eqb b 255 then leaves (reading Iac [] s)
@@ -165,7 +165,7 @@ pub every-map : (v : View) (h : Held) → Constant v h
 unfolding computing
 every-map v h = record { edit-map = refl; erase-map = refl; transmit-map = refl; format-map = refl; error-nothing = refl }
 
--- ---- every option, with each verb, DET on or off, protection suppressed or not
+-- ---- every option, with each verb, on or off, protection suppressed or not
 
 pub record Negotiates (v : View) : Type 0 where
   pub do-20-off : v .frame .det ≡ false
@@ -173,21 +173,35 @@ pub record Negotiates (v : View) : Type 0 where
   pub do-20-on : v .frame .det ≡ true → negotiated v Do 20 ≡ quiet v
   pub dont-20-on : v .frame .det ≡ true → negotiated v Dont 20 ≡ saying (withModes v false false) (bytes (255 ∷ 252 ∷ 20 ∷ []) ∷ [])
   pub dont-20-off : v .frame .det ≡ false → negotiated v Dont 20 ≡ quiet v
-  pub do-other : (option : ℕ) → eqb option 20 ≡ false → negotiated v Do option ≡ saying v (bytes (255 ∷ 252 ∷ option ∷ []) ∷ [])
-  pub dont-other : (option : ℕ) → eqb option 20 ≡ false → negotiated v Dont option ≡ quiet v
+  -- 30: from 37 cells up
+  pub do-30-off : v .frame .x3 ≡ false → leb 37 (v .frame .height * v .frame .width) ≡ true
+      → negotiated v Do 30 ≡ saying (withFrame v (withX3 (v .frame) true)) (bytes (255 ∷ 251 ∷ 30 ∷ []) ∷ [])
+  pub do-30-small : v .frame .x3 ≡ false → leb 37 (v .frame .height * v .frame .width) ≡ false
+      → negotiated v Do 30 ≡ saying v (bytes (255 ∷ 252 ∷ 30 ∷ []) ∷ [])
+  pub do-30-on : v .frame .x3 ≡ true → negotiated v Do 30 ≡ quiet v
+  pub dont-30-on : v .frame .x3 ≡ true → negotiated v Dont 30 ≡ saying (withFrame v (withX3 (v .frame) false)) (bytes (255 ∷ 252 ∷ 30 ∷ []) ∷ [])
+  pub dont-30-off : v .frame .x3 ≡ false → negotiated v Dont 30 ≡ quiet v
+  pub do-other : (option : ℕ) → eqb option 20 ≡ false → eqb option 30 ≡ false
+      → negotiated v Do option ≡ saying v (bytes (255 ∷ 252 ∷ option ∷ []) ∷ [])
+  pub dont-other : (option : ℕ) → eqb option 20 ≡ false → eqb option 30 ≡ false → negotiated v Dont option ≡ quiet v
   pub any-will : (option : ℕ) → negotiated v Will option ≡ saying v (bytes (255 ∷ 254 ∷ option ∷ []) ∷ [])
   pub any-wont : (option : ℕ) → negotiated v Wont option ≡ quiet v
 
 pub every-option : (v : View) → Negotiates v
-unfolding negotiated negotiation
+unfolding negotiated switchedOn switchedOff optionOf isOn accepts turned negotiation
 every-option v =
     record {
       do-20-off = λ e. rw e;
       do-20-on = λ e. rw e;
       dont-20-on = λ e. rw e;
       dont-20-off = λ e. rw e;
-      do-other = λ option e. rw e;
-      dont-other = λ option e. rw e;
+      do-30-off = λ e c. rw (e, c);
+      do-30-small = λ e c. rw (e, c);
+      do-30-on = λ e. rw e;
+      dont-30-on = λ e. rw e;
+      dont-30-off = λ e. rw e;
+      do-other = λ option e f. rw (e, f);
+      dont-other = λ option e f. rw (e, f);
       any-will = λ option. refl;
       any-wont = λ option. refl;
     }

@@ -9,8 +9,10 @@ use Rattle.telnet.specs.declared.Verb.{Verb}
 use Rattle.telnet.specs.declared.Verb.the-variants.{Will, Wont, Do, Dont}
 use Rattle.telnet.specs.declared.Event.{Event}
 use Rattle.telnet.specs.declared.Event.the-variants.{Nothing, Data, Negotiation, Begin, Sub, End, EndBare, Lost}
-use Rattle.screen.proofs.WordLaws.{either, true-or-false, and-false}
+use Rattle.words.proofs.Laws.{either, true-or-false, and-false}
 use Rattle.rules.specs.declared.Held.{Held}
+use Rattle.rules.specs.declared.Reader.{Reader}
+use Rattle.rules.specs.declared.Pad.{Pad}
 use Rattle.rules.specs.declared.Fault.{Fault}
 use Rattle.rules.specs.declared.Fault.the-variants.{NoFault, UnknownCode, OffScreen, TooManyParameters, TooFewParameters, BadValue, BadMap}
 use Rattle.rules.specs.declared.Refusal.the-variants.{Taken}
@@ -20,7 +22,8 @@ use Rattle.rules.specs.Refusal.{isTaken}
 use Rattle.rules.specs.Effect.{Effect, Executed}
 use Rattle.rules.specs.Command.{Row, rows, Listed, listed, unlisted, rowOf, codeIn, reaches, reachesPast}
 use Rattle.rules.specs.Cursor.{cursorGuarded}
-use Rattle.rules.specs.Telnet.{negotiated, hostCharacter, hostData}
+use Rattle.rules.specs.Telnet.{optionOf, isOn, accepts, switchedOn, switchedOff, negotiated, hostCharacter, hostData}
+use Rattle.rules.specs.Pad.{passes}
 use Rattle.rules.specs.Subcommand.{judged, looked, subcommand}
 use Rattle.rules.specs.Operation.{happening, hostByte, running, unless, hostBytes, hostRefusal}
 use Rattle.rules.specs.Call.{Call, host, key, called, executedBy, executedOf}
@@ -69,8 +72,9 @@ module _ (v : View) (h : Held) where
         no-byte = λ e. rw e;
       }
 
-  -- ---- what the reader told
+-- ---- what the reader told
 
+module _ (v : View) where
   abbrev None : Effect → Type 0
   None e = e .executed ≡ []
 
@@ -82,33 +86,39 @@ module _ (v : View) (h : Held) where
       (λ q. either None (eqb b 10) (λ q. refl) (λ q. either None (eqb b 8) (λ q. refl) (λ q. refl))))
 
   negotiated-none : (verb : Verb) (option : ℕ) → None (negotiated v verb option)
-  unfolding negotiated
+  unfolding negotiated switchedOn switchedOff
   negotiated-none Will option = refl
   negotiated-none Wont option = refl
   negotiated-none Do option =
-      either None (not (eqb option detOption)) (λ q. refl) (λ q. either None (v .frame .det) (λ q. refl) (λ q. refl))
-  negotiated-none Dont option = either None (eqb option detOption && v .frame .det) (λ q. refl) (λ q. refl)
+      either None (isOn (v .frame) (optionOf option)) (λ q. refl)
+      (λ q. either None (accepts (v .frame) (optionOf option)) (λ q. refl) (λ q. refl))
+  negotiated-none Dont option = either None (isOn (v .frame) (optionOf option)) (λ q. refl) (λ q. refl)
 
-  other-events : (e : Event) → ((option : ℕ) → e ≡ End option → ⊥) → None (happening v h e)
-  unfolding happening
-  other-events Nothing p = refl
-  other-events (Data b) p = data-none b
-  other-events (Negotiation verb option) p = negotiated-none verb option
-  other-events (Begin option) p = refl
-  other-events (Sub option b) p = refl
-  other-events (End option) p = absurd (p option refl)
-  other-events EndBare p = refl
-  other-events Lost p = refl
+  module _ (r : Reader) (p : Pad) where
+    told-none : (b : ℕ) → None (happening v r p (Data b))
+    unfolding happening
+    told-none b = either None (passes (v .frame) p (r .cr) b) (λ q. refl) (λ q. data-none b)
 
-  pub event-executes : EventExecutes v h
-  unfolding happening
-  event-executes =
-      record {
-        ended = λ e. rw e;
-        while-off = λ option e. rw (e, and-false (eqb option 20) false refl);
-        other-option = λ option e. rw e;
-        otherwise = other-events;
-      }
+    other-events : (e : Event) → ((option : ℕ) → e ≡ End option → ⊥) → None (happening v r p e)
+    unfolding happening
+    other-events Nothing n = refl
+    other-events (Data b) n = told-none b
+    other-events (Negotiation verb option) n = negotiated-none verb option
+    other-events (Begin option) n = refl
+    other-events (Sub option b) n = refl
+    other-events (End option) n = absurd (n option refl)
+    other-events EndBare n = refl
+    other-events Lost n = refl
+
+    pub event-executes : EventExecutes v r p
+    unfolding happening
+    event-executes =
+        record {
+          ended = λ e. rw e;
+          while-off = λ option e. rw (e, and-false (eqb option 20) false refl);
+          other-option = λ option e. rw e;
+          otherwise = other-events;
+        }
 
 -- ---- a call
 
@@ -162,21 +172,22 @@ module _ (v : View) (h : Held) where
   unfolding subcommand
   found-subcommand = either AllFound (eqb (h .count) 0) (λ q. tt) (λ q. found-looked _ refl)
 
-  found-event : (e : Event) → AllFound (happening v h e)
-  unfolding happening
-  found-event Nothing = tt
-  found-event (Data b) = rw (data-none v h b) tt
-  found-event (Negotiation verb option) = rw (negotiated-none v h verb option) tt
-  found-event (Begin option) = tt
-  found-event (Sub option b) = tt
-  found-event (End option) = either AllFound (eqb option detOption && v .frame .det) (λ q. found-subcommand) (λ q. tt)
-  found-event EndBare = tt
-  found-event Lost = tt
+  module _ (r : Reader) (p : Pad) (same : r .held ≡ h) where
+    found-event : (e : Event) → AllFound (happening v r p e)
+    unfolding happening
+    found-event Nothing = tt
+    found-event (Data b) = rw (told-none v r p b) tt
+    found-event (Negotiation verb option) = rw (negotiated-none v verb option) tt
+    found-event (Begin option) = tt
+    found-event (Sub option b) = tt
+    found-event (End option) = either AllFound (eqb option detOption && v .frame .det) (λ q. rw same found-subcommand) (λ q. tt)
+    found-event EndBare = tt
+    found-event Lost = tt
 
 found-run : (s : State) (bs : List ℕ) → All Found ((running s bs) .executed)
 unfolding running hostByte
 found-run s [] = tt
-found-run s (b ∷ bs) = all-append Found ((hostByte s b) .executed) _ (found-event _ _ _) (found-run _ bs)
+found-run s (b ∷ bs) = all-append Found ((hostByte s b) .executed) _ (found-event _ _ _ _ refl _) (found-run _ bs)
 
 found-call : (s : State) (c : Call) → All Found (executedBy s c)
 unfolding executedBy

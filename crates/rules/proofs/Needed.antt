@@ -9,9 +9,9 @@ use lib.Dec.{eqb}
 use lib.ListN.{length, getD, take, replicate}
 use lib.Seq.{getD-set-other}
 use Rattle.telnet.specs.Writer.{subnegotiation}
-use Rattle.screen.specs.Words.{if_then_else_}
+use Rattle.words.specs.Words.{if_then_else_}
 use Rattle.screen.specs.Attributes.{protectedAt}
-use Rattle.screen.proofs.WordLaws.{not-both, both}
+use Rattle.words.proofs.Laws.{not-both, both}
 use Rattle.rules.specs.declared.Session.{Session}
 use Rattle.rules.specs.Session.{State, allPrintable, screen, state}
 use Rattle.rules.specs.Effect.{Executed}

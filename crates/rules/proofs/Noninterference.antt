@@ -7,8 +7,9 @@ use native.Mathlib.Omega.{arith}
 use lib.Dec.{leb}
 use lib.ListN.{length, getD, take}
 use Rattle.screen.specs.Attributes.{protectedAt}
-use Rattle.screen.proofs.WordLaws.{true-or-false, and-left, and-right, both, getD-within}
+use Rattle.words.proofs.Laws.{true-or-false, and-left, and-right, both, getD-within}
 use Rattle.rules.specs.declared.Reader.{Reader}
+use Rattle.rules.specs.declared.Pad.{Pad}
 use Rattle.rules.specs.declared.Refusal.{Refusal}
 use Rattle.rules.specs.declared.Session.{Session}
 use Rattle.rules.specs.Session.{State, printable, allPrintable, replyRoom, screen, state, viewOf}
@@ -51,7 +52,7 @@ same-printable (x ∷ xs) (y ∷ ys) l h =
 
 -- a key that is taken has passed the test on the guard
 not-guarded : (s : State) (reply : List ℕ) (k : ℕ) → isTaken (keyRefusal s reply k) ≡ true
-    → given (needsOf (keyOf k) .unguarded) (not (cursorGuarded (viewOf s))) ≡ true
+    → given (needsOf (keyOf (s .session .frame) k) .unguarded) (not (cursorGuarded (viewOf s))) ≡ true
 unfolding sizeTests stateTests keyTests
 not-guarded s reply k e = let passed = all-pass _ refl e in search
 
@@ -82,8 +83,8 @@ module _ (attrs c₀ d₀ : List ℕ) where
 
   -- ---- host bytes
 
-  applied-twins : {s t : State} {r : Reader} {e : Effect} → TwinStates s t → SafeEffect (s .screen .attrs) e
-      → TwinRuns 1 1 (applied s r e) (applied t r e)
+  applied-twins : {s t : State} {r : Reader} {p : Pad} {e : Effect} → TwinStates s t → SafeEffect (s .screen .attrs) e
+      → TwinRuns 1 1 (applied s r p e) (applied t r p e)
   applied-twins {e = e} (twins s now c d a p w) f =
       let safe : SafeEffect attrs e = rw a at f in
       record {
@@ -103,7 +104,7 @@ module _ (attrs c₀ d₀ : List ℕ) where
       true-or-false (leb (replyRoom (s .frame)) free)
       (λ r.
       let none = none-append ((hostByte (state s (screen c now)) b) .executed) _ (rw r at x) in
-      let one = applied-twins start (safe-happening _ p (s .reader .held) _ (none .0)) in
+      let one = applied-twins start (safe-happening _ p (s .reader) (s .pad) _ (none .0)) in
       let rest = taking-twins bs (free - length said) (one .states) (none .1) in
       rw (r, ← one .replies) (record { taken = ap suc (rest .taken); replies = ap (λ l. said ++ l) (rest .replies); states = rest .states }))
       (λ r. rw r (record { taken = refl; replies = refl; states = start }))
@@ -142,7 +143,7 @@ module _ (attrs c₀ d₀ : List ℕ) where
     called-twins (key k reply) (twins s now c d a p w) x =
         let start = twins s now c d a p w in
         let e = same-tests reply start in
-        rw (e .0, e .1) (unless-twins _ reply start (λ r. applied-twins start (safe-key _ p (keyOf k) (not-guarded _ reply k r))))
+        rw (e .0, e .1) (unless-twins _ reply start (λ r. applied-twins start (safe-key _ p (s .pad) (keyOf (s .frame) k) (not-guarded _ reply k r))))
 
     -- ---- a list of calls
 

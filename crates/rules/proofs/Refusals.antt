@@ -3,7 +3,7 @@ use mathlib.Core.Path.{_≡_}
 use mathlib.Core.Bool.{Bool, true, false, not, _&&_}
 use mathlib.Core.List.{List, [], _∷_}
 use borrow.Author.Tests.{not-true}
-use Rattle.screen.proofs.WordLaws.{either, not-both, and-left, and-right}
+use Rattle.words.proofs.Laws.{either, not-both, and-left, and-right}
 use Rattle.rules.specs.Refusal.{Test, isTaken, verdict}
 use Rattle.rules.proofs.All.{All}
 -- the sentences of document 01 are checked first, so that a wrong rule is refused there

@@ -9,11 +9,14 @@ use borrow.Author.Tests.{ne-eqb}
 use lib.Dec.{eqb}
 use lib.ListN.{length, length-append, length-take, length-drop}
 use Rattle.telnet.specs.Writer.{doubled, subnegotiation}
+use Rattle.pad.specs.declared.parameter.Values.{Values}
+use Rattle.pad.specs.Response.{responseOf}
+use Rattle.pad.proofs.ResponseLaws.{response-most}
 use Rattle.screen.specs.Words.{firstOf}
 use Rattle.screen.specs.Attributes.{protectedAt}
 use Rattle.screen.specs.Fields.{startsAt, opensAt, fieldEnd}
 use Rattle.edit.specs.Edits.{textOf}
-use Rattle.screen.proofs.WordLaws.{either, true-or-false}
+use Rattle.words.proofs.Laws.{either, true-or-false}
 use Rattle.screen.proofs.FieldLaws.{end-gt}
 use Rattle.rules.specs.Session.{replyRoom, freshFrame}
 use Rattle.rules.specs.Effect.{Part, bytes, text, spelled, spelledAll}
@@ -35,10 +38,14 @@ module _ (m n : ℕ) where
   unfolding spelledAll
   fits-nothing chars e = omega arith
 
-  -- a short one
-  pub fits-bytes : 0 < n * m → (bs : List ℕ) → length bs ≤ 9 → InRoom m n (bytes bs ∷ [])
+  -- bytes, where there is room for so many
+  pub fits-within : (bs : List ℕ) (most : ℕ) → length bs ≤ most → most ≤ 7 * (n * m) + 2 → InRoom m n (bytes bs ∷ [])
   unfolding spelledAll spelled
-  fits-bytes h bs l chars e = rw length-append (omega arith)
+  fits-within bs most l h chars e = rw length-append (omega arith)
+
+  -- a short reply
+  pub fits-bytes : 0 < n * m → (bs : List ℕ) → length bs ≤ 9 → InRoom m n (bytes bs ∷ [])
+  fits-bytes h bs l = fits-within bs 9 l (omega arith)
 
   -- a transmission: its preface takes eight bytes
   pub fits-prefaced : (bs : List ℕ) (ps : List Part) → length bs ≡ 8 → Follows (n * m) ps → InRoom m n (bytes bs ∷ ps)
@@ -61,6 +68,18 @@ error-message command number e = rw e (true-or-false (eqb command 255) (λ q. rw
 pub function-message : (n : ℕ) → length (subnegotiation 20 (40 ∷ n ∷ [])) ≤ 9
 unfolding subnegotiation doubled
 function-message n = true-or-false (eqb n 255) (λ q. rw q (omega arith)) (λ q. rw q (omega arith))
+
+-- a payload is at most doubled
+doubled-most : (bs : List ℕ) → length (doubled bs) ≤ 2 * length bs
+unfolding doubled
+doubled-most [] = omega arith
+doubled-most (b ∷ bs) =
+    true-or-false (eqb b 255) (λ q. rw q (omega (arith, doubled-most bs))) (λ q. rw q (omega (arith, doubled-most bs)))
+
+-- RESPONSE-IS, whatever the values
+pub response-message : (vs : Values) → length (subnegotiation 30 (responseOf vs)) ≤ 119
+unfolding subnegotiation doubled
+response-message vs = rw length-append (omega (arith, doubled-most (responseOf vs), response-most vs))
 
 -- ---- texts
 

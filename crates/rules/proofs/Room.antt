@@ -8,7 +8,7 @@ use native.Mathlib.Omega.{arith}
 use borrow.Author.Tests.{leb-true, le-leb}
 use lib.Dec.{leb}
 use lib.ListN.{length, take, length-append, length-drop}
-use Rattle.screen.proofs.WordLaws.{either}
+use Rattle.words.proofs.Laws.{either}
 use Rattle.rules.specs.declared.Refusal.the-variants.{Taken}
 use Rattle.rules.specs.Session.{State, replyRoom, freshFrame}
 use Rattle.rules.specs.Refusal.{isTaken}
@@ -17,6 +17,7 @@ use Rattle.rules.specs.Call.{Call, host, key, called}
 use Rattle.rules.specs.cases.Computing.{computing}
 use Rattle.rules.specs.cases.Vocabulary.{starting}
 use Rattle.rules.proofs.Calls.{replyOf, takenBy, ranBy, called-cases}
+use Rattle.rules.proofs.Pads.{pad-whole}
 use Rattle.rules.proofs.Effects.{keeps-happening, keeps-key}
 use Rattle.rules.proofs.Sound.{Sound, sound-byte, Accepted, sound-of}
 
@@ -29,11 +30,11 @@ module _ {m n : ℕ} {s : State} (k : Sound m n s) where
   -- of a host byte
   pub room-byte : (b : ℕ) → length ((hostByte s b) .replies) ≤ replyRoom (s .session .frame)
   unfolding hostByte
-  room-byte b = rw room-is (keeps-happening (k .view) (s .session .reader .held) _ .reply (s .screen .chars) (k .chars .long))
+  room-byte b = rw room-is (keeps-happening (k .view) (s .session .reader) (s .session .pad) _ .reply (s .screen .chars) (k .chars .long))
 
   -- of a key
   pub room-key : (code : ℕ) → length ((keyRan s code) .replies) ≤ replyRoom (s .session .frame)
-  room-key code = omega (arith, room-is, keeps-key (k .view) code .reply (s .screen .chars) (k .chars .long))
+  room-key code = omega (arith, room-is, keeps-key (k .view) (s .session .pad) (pad-whole (k .pad)) code .reply (s .screen .chars) (k .chars .long))
 
 -- All of it is used: two cells, each an unprotected field, and subcommand 21.
 pub room-reached :

@@ -12,7 +12,7 @@ use lib.Seq.{getD-set-same, getD-set-other, getD-take, getD-drop, ext-getD}
 use Rattle.screen.specs.Words.{inRange}
 use Rattle.screen.specs.Attributes.{protectedAt}
 use Rattle.edit.specs.Edits.{shifted, lies, onPart, erased, textOf}
-use Rattle.screen.proofs.WordLaws.{true-or-false, not-both, and-right, getD-within}
+use Rattle.words.proofs.Laws.{true-or-false, not-both, and-right, getD-within}
 use Rattle.edit.proofs.EditLaws.{shifted-length, erased-length, erased-cell, onPart-none, onPart-length, onPart-before, onPart-inside, onPart-after}
 use Rattle.rules.specs.Effect.{Change, put, erase, shift, changed, changedAll, Part, bytes, text, spelled, spelledAll}
 use Rattle.rules.specs.Noninterference.{Alike, Kept}

@@ -12,29 +12,34 @@ use Rattle.telnet.specs.declared.Verb.the-variants.{Will, Wont, Do, Dont}
 use Rattle.telnet.specs.declared.Event.{Event}
 use Rattle.telnet.specs.declared.Event.the-variants.{Nothing, Data, Negotiation, Begin, Sub, End, EndBare, Lost}
 use Rattle.telnet.specs.Reader.{verbCode}
-use Rattle.screen.specs.Words.{if_then_else_}
+use Rattle.words.specs.Words.{if_then_else_}
 use Rattle.screen.specs.Attributes.{protectedAt}
 use Rattle.screen.specs.Fields.{fieldEnd, spanEnd}
-use Rattle.screen.proofs.WordLaws.{either, not-both, and-left}
+use Rattle.words.proofs.Laws.{either, not-both, and-left}
 use Rattle.screen.proofs.FieldLaws.{start-le, span-open, field-open, opens-unprotected}
 use Rattle.rules.specs.declared.Held.{Held}
+use Rattle.rules.specs.declared.Frame.{Frame}
+use Rattle.rules.specs.declared.Reader.{Reader}
+use Rattle.rules.specs.declared.Pad.{Pad}
 use Rattle.rules.specs.declared.Area.the-variants.{Unprotected}
 use Rattle.rules.specs.declared.Fault.{Fault}
 use Rattle.rules.specs.declared.Fault.the-variants.{NoFault, UnknownCode, OffScreen, TooManyParameters, TooFewParameters, BadValue, BadMap}
 use Rattle.rules.specs.declared.Key.{Key}
-use Rattle.rules.specs.declared.Key.the-variants.{Typed, Back, Tab, Send, Delete, Function, Meaningless}
+use Rattle.rules.specs.declared.Key.the-variants.{Typed, Back, Tab, Send, Delete, Function, ToLine, Meaningless}
 use Rattle.rules.specs.Session.{View, cursorCell}
 use Rattle.rules.specs.Number.{detOption}
 use Rattle.rules.specs.Command.{Row, rows, Listed, listed, unlisted, reaches, reachesPast}
 use Rattle.rules.specs.Effect.{Effect, Part}
 use Rattle.rules.specs.Cursor.{cursorGuarded}
-use Rattle.rules.specs.Telnet.{negotiated, hostCharacter, hostCharacters, hostData}
+use Rattle.rules.specs.Telnet.{turned, switchedOn, switchedOff, negotiated, hostCharacter, hostCharacters, hostData, hostText}
+use Rattle.rules.specs.Pad.{response, echoedAt, passes}
 use Rattle.rules.specs.Subcommand.{fieldTexts, withoutFirst, transmitted, erasure, suppressing, obeyed, judged, looked, subcommand}
 use Rattle.rules.specs.Key.{needsOf, given, pressed}
 use Rattle.rules.specs.Operation.{happening}
 use Rattle.rules.specs.Noninterference.{noneReaches}
 use Rattle.rules.proofs.All.{All, all-append}
 use Rattle.rules.proofs.Rows.{IfListed, in-list}
+use Rattle.rules.proofs.Options.{by-option}
 use Rattle.rules.proofs.Safe.{Open, SafeChange, SafePart}
 
 -- the attribute bytes stay, protection stays in effect, and unprotected cells alone are changed and sent
@@ -66,6 +71,18 @@ safe-characters (suc n) v protecting c =
     let rest = rw (one .attributes) at (safe-characters n ((hostCharacter v c) .view) (one .protecting) c) in
     search all-append
 
+safe-any : (v : View) → v .frame .suppressed ≡ false → (b : ℕ) → SafeEffect (v .attrs) (hostData v b)
+unfolding hostData
+safe-any v protecting b = search (either (SafeEffect (v .attrs)), safe-character) depth 7
+
+safe-text : (bs : List ℕ) (v : View) → v .frame .suppressed ≡ false → SafeEffect (v .attrs) (hostText v bs)
+unfolding hostText
+safe-text [] v protecting = search
+safe-text (b ∷ bs) v protecting =
+    let one = safe-any v protecting b in
+    let rest = rw (one .attributes) at (safe-text bs ((hostData v b) .view) (one .protecting)) in
+    search all-append
+
 -- ---- fields and the cursor's cell
 
 module _ (attrs : List ℕ) where
@@ -91,18 +108,18 @@ module _ (v : View) (protecting : v .frame .suppressed ≡ false) where
       → All P (if cursorGuarded v then [] else x ∷ [])
   unless-guarded P x f = either (All P) (cursorGuarded v) (λ g. tt) (λ g. (f (open-cursor v protecting g), tt))
 
-  -- ---- host data and negotiation
-
-  safe-data : (b : ℕ) → SafeEffect (v .attrs) (hostData v b)
-  unfolding hostData
-  safe-data b = search (either (SafeEffect (v .attrs)), safe-character) depth 7
+  -- ---- negotiation
 
   safe-negotiated : (verb : Verb) (option : ℕ) → SafeEffect (v .attrs) (negotiated v verb option)
-  unfolding negotiated
+  unfolding negotiated switchedOn switchedOff turned
   safe-negotiated Will option = search
   safe-negotiated Wont option = search
-  safe-negotiated Do option = search (either (SafeEffect (v .attrs)))
-  safe-negotiated Dont option = search (either (SafeEffect (v .attrs)))
+  safe-negotiated Do option =
+      by-option (λ o. SafeEffect (v .attrs) (switchedOn v o option)) option (λ q. search (either (SafeEffect (v .attrs))))
+      (λ q. search (either (SafeEffect (v .attrs)))) (search (either (SafeEffect (v .attrs))))
+  safe-negotiated Dont option =
+      by-option (λ o. SafeEffect (v .attrs) (switchedOff v o option)) option (λ q. search (either (SafeEffect (v .attrs))))
+      (λ q. search (either (SafeEffect (v .attrs)))) (search (either (SafeEffect (v .attrs))))
 
   -- ---- subcommands
 
@@ -244,25 +261,31 @@ module _ (v : View) (protecting : v .frame .suppressed ≡ false) where
 
   -- ---- keys
 
-  pub safe-key : (k : Key) → given (needsOf k .unguarded) (not (cursorGuarded v)) ≡ true → SafeEffect (v .attrs) (pressed v k)
+  pub safe-key : (p : Pad) (k : Key) → given (needsOf k .unguarded) (not (cursorGuarded v)) ≡ true → SafeEffect (v .attrs) (pressed v p k)
   unfolding pressed needsOf
-  safe-key (Typed c) g = let u = open-cursor v protecting (not-true _ g) in search
-  safe-key Back g = search
-  safe-key Tab g = search
-  safe-key Send g = safe-fields
-  safe-key Delete g = search (unless-guarded, open-span)
-  safe-key (Function n) g = search
-  safe-key Meaningless g = search
+  safe-key p (Typed c) g = let u = open-cursor v protecting (not-true _ g) in search
+  safe-key p Back g = search
+  safe-key p Tab g = search
+  safe-key p Send g = safe-fields
+  safe-key p Delete g = search (unless-guarded, open-span)
+  safe-key p (Function n) g = search
+  safe-key p (ToLine k) g = let text = safe-text (echoedAt p k) v protecting in search
+  safe-key p Meaningless g = search
 
 -- ---- host bytes
 
-pub safe-happening : (v : View) → v .frame .suppressed ≡ false → (h : Held) (e : Event) → Allowed (v .attrs) (happening v h e)
+safe-response : (attrs : List ℕ) (f : Frame) (p : Pad) (option : ℕ) → All (SafePart attrs) (response f p option)
+unfolding response
+safe-response attrs f p option = search (either (All (SafePart attrs)))
+
+pub safe-happening : (v : View) → v .frame .suppressed ≡ false → (r : Reader) (p : Pad) (e : Event) → Allowed (v .attrs) (happening v r p e)
 unfolding happening
-safe-happening v protecting h Nothing = search
-safe-happening v protecting h (Data b) = search safe-data
-safe-happening v protecting h (Negotiation verb option) = search safe-negotiated
-safe-happening v protecting h (Begin option) = search
-safe-happening v protecting h (Sub option b) = search
-safe-happening v protecting h (End option) = either (Allowed (v .attrs)) (eqb option detOption && v .frame .det) (λ q. safe-subcommand v protecting h) (λ q. search)
-safe-happening v protecting h EndBare = search
-safe-happening v protecting h Lost = search
+safe-happening v protecting r p Nothing = search
+safe-happening v protecting r p (Data b) = λ x. either (SafeEffect (v .attrs)) (passes (v .frame) p (r .cr) b) (λ q. search) (λ q. safe-any v protecting b)
+safe-happening v protecting r p (Negotiation verb option) = search safe-negotiated
+safe-happening v protecting r p (Begin option) = search
+safe-happening v protecting r p (Sub option b) = search
+safe-happening v protecting r p (End option) =
+    either (Allowed (v .attrs)) (eqb option detOption && v .frame .det) (λ q. safe-subcommand v protecting (r .held)) (λ q. search safe-response)
+safe-happening v protecting r p EndBare = search
+safe-happening v protecting r p Lost = search

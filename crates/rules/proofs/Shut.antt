@@ -13,7 +13,7 @@ use Rattle.rules.specs.Refusal.{numberOf}
 use Rattle.rules.specs.Operation.{blank, opened}
 use Rattle.rules.specs.Call.{host, key}
 use Rattle.rules.specs.cases.Computing.{computing}
-use Rattle.rules.specs.cases.Vocabulary.{Case, Trial, Passes, characters, case, opening, starting, at, modes, reading, showing, attributed, unchanged, see, hostTrial, keyTrial, refusedTrial, observed, expected, seeing}
+use Rattle.rules.specs.cases.Vocabulary.{Case, Trial, Passes, characters, case, opening, starting, at, modes, reading, afterCr, showing, attributed, unchanged, see, hostTrial, keyTrial, refusedTrial, observed, expected, seeing}
 use Rattle.rules.proofs.Passing.{each-equal, all-pass}
 -- the worked forms are checked first
 use Rattle.rules.proofs.Worked.{worked}
@@ -393,7 +393,7 @@ data-cases =
     ∷ case "DONT 20 while off does nothing" (modes false true (label true 2 0)) (hears (verb 254 20) [] ∷ [])
     ∷ form "BS and LF stop at the edge" 2 0
     (reads (8 ∷ []) (at 1 0) [] ∷ reads (10 ∷ []) (at 1 1) [] ∷ reads (10 ∷ 8 ∷ 8 ∷ []) (at 0 1) [] ∷ [])
-    ∷ form "CR sets x to 0" 3 1 (reads (13 ∷ []) (at 0 1) [] ∷ [])
+    ∷ form "CR sets x to 0" 3 1 (reads (13 ∷ []) (λ s. afterCr true (at 0 1 s)) [] ∷ [])
     ∷ form "other data and IAC commands do nothing" 2 0
     (hears (0 ∷ 7 ∷ 9 ∷ 31 ∷ 127 ∷ 128 ∷ 254 ∷ 0xff ∷ 0xff ∷ []) [] ∷ hears (0xff ∷ 0x41 ∷ 0xff ∷ 0xf1 ∷ []) [] ∷ [])
     ∷ free "at the last cell the cursor stays" 2 1 (reads (characters "xyz") (see 3 1 "abcdefxz") [] ∷ [])

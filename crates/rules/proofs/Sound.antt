@@ -1,21 +1,21 @@
 -- What refusals 1 to 4 ask holds after an open, and stays so.
 use mathlib.Core.Path.{_≡_, refl}
-use mathlib.Core.Bool.{Bool, true, _&&_}
+use mathlib.Core.Bool.{Bool, true, false, not, _&&_, _||_}
 use mathlib.Core.List.{List, [], _∷_, _++_}
 use Prim.Native.Nat.{ℕ, zero, suc, _*_, _≤_}
 use native.Mathlib.Omega.{arith}
 use borrow.Author.Tests.{leb-true, le-leb, ltb-true, lt-ltb, eqb-true, eq-eqb}
 use lib.Dec.{leb, ltb, eqb}
 use lib.ListN.{length, length-replicate, replicate}
-use Rattle.screen.specs.Words.{between}
+use Rattle.words.specs.Words.{between}
 use Rattle.screen.specs.Cells.{onScreen}
-use Rattle.screen.proofs.WordLaws.{either, not-both, and-left, and-right}
+use Rattle.words.proofs.Laws.{either, true-or-false, not-both, and-left, and-right}
 use Rattle.telnet.specs.declared.Event.{Event}
 use Rattle.telnet.specs.declared.Event.the-variants.{Nothing, Data, Negotiation, Begin, Sub, End, EndBare, Lost}
 use Rattle.rules.specs.declared.Held.{Held}
 use Rattle.rules.specs.declared.Frame.{Frame}
 use Rattle.rules.specs.declared.Refusal.the-variants.{Taken, Size}
-use Rattle.rules.specs.Session.{Screen, State, cells, replyRoom, freshFrame, fresh, state, viewOf, allPrintable, sessionOk}
+use Rattle.rules.specs.Session.{Screen, State, cells, replyRoom, x3Cells, freshFrame, fresh, state, viewOf, allPrintable, sessionOk}
 use Rattle.rules.specs.Refusal.{isTaken, Test, verdict, sizeTests, stateTests}
 use Rattle.rules.specs.Telnet.{holding, heldAfter}
 use Rattle.rules.specs.Key.{keyOf, keyTests}
@@ -25,12 +25,14 @@ use Rattle.rules.proofs.Refusals.{asked}
 use Rattle.rules.proofs.Calls.{replyOf, refusalBy, ranBy, called-cases}
 use Rattle.rules.proofs.Characters.{Text}
 use Rattle.rules.proofs.Views.{SoundView}
-use Rattle.rules.proofs.Effects.{keeps-happening, keeps-key}
+use Rattle.rules.proofs.Pads.{SoundPad, pad-parts, pad-whole, fresh-pad, pad-told, pad-pressed}
+use Rattle.rules.proofs.Effects.{keeps-happening, keeps-key, typable}
 
 -- What refusals 1 to 4 ask of a state, its screen being m cells wide and n lines high.
 pub record Sound (m n : ℕ) (s : State) : Type 0 where
   pub view : SoundView m n (viewOf s)
   pub held : s .session .reader .held .count ≤ 6
+  pub pad : SoundPad (s .session .pad)
   pub chars : Text (n * m) (s .screen .chars)
 
 -- ---- it stays so
@@ -52,12 +54,20 @@ module _ {m n : ℕ} {s : State} (k : Sound m n s) where
   pub sound-byte : (b : ℕ) → Sound m n ((hostByte s b) .state)
   unfolding hostByte
   sound-byte b =
-      let e = keeps-happening (k .view) (s .session .reader .held) _ in
-      record { view = e .view; held = held-few _ (k .held) _; chars = e .changes _ _ (k .chars) }
+      let e = keeps-happening (k .view) (s .session .reader) (s .session .pad) _ in
+      record { view = e .view; held = held-few _ (k .held) _; pad = pad-told (k .pad) _ _; chars = e .changes _ _ (k .chars) }
 
   -- a key
   pub sound-key : (code : ℕ) → Sound m n ((keyRan s code) .state)
-  sound-key code = let e = keeps-key (k .view) code in record { view = e .view; held = k .held; chars = e .changes _ _ (k .chars) }
+  sound-key code =
+      let f = s .session .frame in
+      let e = keeps-key (k .view) (s .session .pad) (pad-whole (k .pad)) code in
+      record {
+        view = e .view;
+        held = k .held;
+        pad = pad-pressed (k .pad) (keyOf f code) (λ c q. let t = typable f code in (rw q at t) .1);
+        chars = e .changes _ _ (k .chars);
+      }
 
 -- host bytes
 pub sound-running : {m n : ℕ} {s : State} → Sound m n s → (bs : List ℕ) → Sound m n ((running s bs) .state)
@@ -116,12 +126,16 @@ accepted s reply others e =
     let text = asked _ _ refl (z .1) in
     let session = asked _ _ refl (text .1) in
     let room = asked _ _ refl (session .1) in
-    let o = halves (onScreen (f .width) (f .height) (f .cursor)) (leb (s .session .reader .held .count) 6) (session .0) in
+    let o = halves (onScreen (f .width) (f .height) (f .cursor)) _ (session .0) in
     let p = halves (ltb (f .cursor .x .0) (f .width)) (ltb (f .cursor .y .0) (f .height)) (o .0) in
+    let h = halves (leb (s .session .reader .held .count) 6) _ (o .1) in
+    let x = halves (not (f .x3) || leb x3Cells (cells f)) _ (h .1) in
+    let wide : f .x3 ≡ true → x3Cells ≤ cells f = λ on. leb-true x3Cells (cells f) (rw on at (x .0)) in
     record {
       sound = record {
-        view = omega (arith, ltb-true);
+        view = record { sizes = omega arith; cursor = omega (arith, ltb-true); attrs = omega arith; x3 = wide };
         held = omega (arith, leb-true);
+        pad = pad-parts (s .session .pad) (x .1);
         chars = record { long = omega arith; printing = text .0 };
       };
       room = omega (arith, leb-true);
@@ -131,18 +145,21 @@ accepted s reply others e =
 pub sound-of : (s : State) (c : Call) → isTaken (refusalBy s c) ≡ true → Accepted s (replyOf c)
 unfolding stateTests
 sound-of s (host input reply) e = accepted s reply [] e
-sound-of s (key code reply) e = accepted s reply (keyTests (viewOf s) (keyOf code)) e
+sound-of s (key code reply) e = accepted s reply (keyTests (viewOf s) (s .session .pad) (keyOf (s .session .frame) code)) e
 
 -- and host bytes that find these are not refused
 pub passes : {m n : ℕ} {s : State} → Sound m n s → (reply : List ℕ) → replyRoom (s .session .frame) ≤ length reply
     → hostRefusal s reply ≡ Taken
 unfolding verdict sizeTests stateTests sessionOk
-passes {m} {n} k reply r =
+passes {m} {n} {s} k reply r =
     let v = k .view in
     let z = v .sizes in
+    let f = s .session .frame in
+    let wide : (not (f .x3) || leb x3Cells (cells f)) ≡ true =
+    true-or-false (f .x3) (λ on. rw on (le-leb x3Cells (cells f) (rw (z .width, z .height) (v .x3 on)))) (λ off. rw off) in
     rw (z .width, z .height, le-leb 1 m (omega arith), le-leb m 132 (z .wide), le-leb 1 n (omega arith), le-leb n 64 (z .high))
     (rw (eq-eqb _ _ (k .chars .long), eq-eqb _ _ (v .attrs), k .chars .printing)
-    (rw (lt-ltb _ m (v .cursor .0), lt-ltb _ n (v .cursor .1), le-leb _ 6 (k .held), le-leb _ _ (rw (z .width, z .height) at r))))
+    (rw (lt-ltb _ m (v .cursor .0), lt-ltb _ n (v .cursor .1), le-leb _ 6 (k .held), rw (z .width, z .height) at wide, pad-whole (k .pad), le-leb _ _ (rw (z .width, z .height) at r))))
 
 -- ---- open
 
@@ -165,8 +182,14 @@ module _ (m n : ℕ) (b : Screen) where
       (λ t e.
       let z = sizes-of (freshFrame m n) b [] t .0 in
       record {
-        view = omega (arith, length-replicate {A = ℕ} (n * m) 0);
+        view = record {
+          sizes = omega arith;
+          cursor = omega arith;
+          attrs = length-replicate (n * m) 0;
+          x3 = λ t. not-both false t refl;
+        };
         held = omega arith;
+        pad = fresh-pad;
         chars = record { long = length-replicate (n * m) 32; printing = spaces-printable (n * m) };
       })
       (λ f e. not-both (isTaken (verdict (sizeTests (freshFrame m n) b))) (rw e) f)

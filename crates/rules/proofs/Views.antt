@@ -1,6 +1,6 @@
 -- Views as refusals 1, 2 and 4 ask for them: every place and every cell that the rules name is on the screen.
 use mathlib.Core.Path.{_≡_, _∙_}
-use mathlib.Core.Bool.{Bool}
+use mathlib.Core.Bool.{Bool, true}
 use mathlib.Core.List.{List}
 use Prim.Native.Nat.{ℕ, _+_, _*_, _≤_, _<_}
 use native.Mathlib.Omega.{arith}
@@ -10,12 +10,13 @@ use lib.ListN.{length}
 use Rattle.screen.specs.declared.cell.Place.{Place}
 use Rattle.screen.specs.Cells.{placeOf}
 use Rattle.screen.specs.Fields.{fieldStart}
-use Rattle.screen.proofs.WordLaws.{either, first-below, last-below}
+use Rattle.words.proofs.Laws.{either}
+use Rattle.screen.proofs.WordLaws.{first-below, last-below}
 use Rattle.screen.proofs.CellLaws.{cell-lt, place-on-screen}
 use Rattle.screen.proofs.FieldLaws.{start-le, nextOpen-lt}
 use Rattle.rules.specs.declared.Destination.{Destination}
 use Rattle.rules.specs.declared.Destination.the-variants.{Up, Down, Left, Right, Corner, LineStart, NextLine, NextCell, Home, ReverseTab, FirstField, NextField, NextOpen, PreviousOpen}
-use Rattle.rules.specs.Session.{View, cursorCell, withCursor, withModes, withAttrs}
+use Rattle.rules.specs.Session.{View, x3Cells, withX3, cursorCell, withCursor, withModes, withFrame, withAttrs}
 use Rattle.rules.specs.Cursor.{limited, oneMore, nextCell, homeCell, backTabCell, firstFieldCell, nextFieldCell, previousOpenCell, destination, sentTo}
 -- the sentences of document 01 are checked first, so that a wrong rule is refused there
 use Rattle.rules.proofs.Causes.{nothing-else}
@@ -36,6 +37,7 @@ pub record SoundView (m n : ℕ) (v : View) : Type 0 where
   pub sizes : Sized m n (v .frame .width) (v .frame .height)
   pub cursor : On m n (v .frame .cursor)
   pub attrs : length (v .attrs) ≡ n * m
+  pub x3 : v .frame .x3 ≡ true → x3Cells ≤ n * m
 
 -- a cell of the screen
 abbrev pub Within : View → ℕ → Type 0
@@ -49,15 +51,19 @@ module _ {m n : ℕ} {v : View} (k : SoundView m n v) where
 
   -- the cursor elsewhere on the screen
   pub at-place : (p : Place) → On m n p → SoundView m n (withCursor v p)
-  at-place p h = record { sizes = k .sizes; cursor = h; attrs = k .attrs }
+  at-place p h = record { sizes = k .sizes; cursor = h; attrs = k .attrs; x3 = k .x3 }
 
   -- other modes
   pub switched : (det suppressed : Bool) → SoundView m n (withModes v det suppressed)
-  switched det suppressed = record { sizes = k .sizes; cursor = k .cursor; attrs = k .attrs }
+  switched det suppressed = record { sizes = k .sizes; cursor = k .cursor; attrs = k .attrs; x3 = k .x3 }
+
+  -- option 30 on, from its cells up, or off
+  pub turned-x3 : (on : Bool) → (on ≡ true → x3Cells ≤ n * m) → SoundView m n (withFrame v (withX3 (v .frame) on))
+  turned-x3 on h = record { sizes = k .sizes; cursor = k .cursor; attrs = k .attrs; x3 = h }
 
   -- other attribute bytes, as many as before
   pub attributed : (attrs : List ℕ) → length attrs ≡ length (v .attrs) → SoundView m n (withAttrs v attrs)
-  attributed attrs e = record { sizes = k .sizes; cursor = k .cursor; attrs = e ∙ k .attrs }
+  attributed attrs e = record { sizes = k .sizes; cursor = k .cursor; attrs = e ∙ k .attrs; x3 = k .x3 }
 
   -- ---- cells
 

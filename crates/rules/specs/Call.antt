@@ -2,7 +2,7 @@
 use mathlib.Core.List.{List, [], _∷_, _++_}
 use Prim.Native.Nat.{ℕ}
 use Rattle.rules.specs.declared.Answer.{Answer}
-use Rattle.screen.specs.Words.{if_then_else_}
+use Rattle.words.specs.Words.{if_then_else_}
 use Rattle.rules.specs.Refusal.{isTaken}
 use Rattle.rules.specs.Effect.{Executed}
 use Rattle.rules.specs.Session.{State, state}

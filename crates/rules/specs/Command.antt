@@ -8,7 +8,7 @@ use Rattle.telnet.specs.Reader.{verbCode}
 use Rattle.telnet.specs.declared.Verb.the-variants.{Will, Do, Dont}
 use Rattle.edit.specs.declared.range.Shift.the-variants.{Insertion, Deletion}
 use Rattle.screen.specs.declared.cell.Place.{Place}
-use Rattle.screen.specs.Words.{if_then_else_, between}
+use Rattle.words.specs.Words.{if_then_else_, between}
 use Rattle.screen.specs.Cells.{place, onScreen}
 use Rattle.rules.specs.declared.Held.{Held}
 use Rattle.rules.specs.declared.Facility.the-variants.{Editing, Erasing, Transmitting, Formatting}

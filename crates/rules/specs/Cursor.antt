@@ -3,7 +3,7 @@ use mathlib.Core.Bool.{Bool, not}
 use Prim.Native.Nat.{ℕ, _+_, _-_, min}
 use lib.Dec.{ltb}
 use Rattle.screen.specs.declared.cell.Place.{Place}
-use Rattle.screen.specs.Words.{if_then_else_}
+use Rattle.words.specs.Words.{if_then_else_}
 use Rattle.screen.specs.Cells.{place, placeOf}
 use Rattle.screen.specs.Attributes.{protectedAt, guardedAt}
 use Rattle.screen.specs.Fields.{opensAt, firstFrom, lastBefore}

@@ -10,6 +10,8 @@ use Rattle.telnet.specs.declared.Event.{Event}
 use Rattle.telnet.specs.declared.Event.the-variants.{End}
 use Rattle.telnet.specs.Reader.{readOf}
 use Rattle.rules.specs.declared.Held.{Held}
+use Rattle.rules.specs.declared.Reader.{Reader}
+use Rattle.rules.specs.declared.Pad.{Pad}
 use Rattle.rules.specs.declared.Refusal.the-variants.{Taken}
 use Rattle.rules.specs.declared.Fault.the-variants.{NoFault}
 use Rattle.rules.specs.Session.{View, State, viewOf}
@@ -47,18 +49,19 @@ pub record SubcommandExecutes (v : View) (h : Held) : Type 0 where
 
 -- ---- what the reader's news executes: the end of a subnegotiation of option 20 while DET is on, and nothing else
 
-pub record EventExecutes (v : View) (h : Held) : Type 0 where
-  pub ended : v .frame .det ≡ true → (happening v h (End 20)) .executed ≡ (subcommand v h) .executed
-  pub while-off : (option : ℕ) → v .frame .det ≡ false → (happening v h (End option)) .executed ≡ []
-  pub other-option : (option : ℕ) → eqb option 20 ≡ false → (happening v h (End option)) .executed ≡ []
+pub record EventExecutes (v : View) (r : Reader) (p : Pad) : Type 0 where
+  pub ended : v .frame .det ≡ true → (happening v r p (End 20)) .executed ≡ (subcommand v (r .held)) .executed
+  pub while-off : (option : ℕ) → v .frame .det ≡ false → (happening v r p (End option)) .executed ≡ []
+  pub other-option : (option : ℕ) → eqb option 20 ≡ false → (happening v r p (End option)) .executed ≡ []
   -- no option byte, thrown away, or no end
-  pub otherwise : (e : Event) → ((option : ℕ) → e ≡ End option → ⊥) → (happening v h e) .executed ≡ []
+  pub otherwise : (e : Event) → ((option : ℕ) → e ≡ End option → ⊥) → (happening v r p e) .executed ≡ []
 
 -- ---- what host bytes, a call and a list of calls execute
 
 pub record CallExecutes (s : State) : Type 0 where
   pub byte : (b : ℕ)
-      → let r = s .session .reader in (hostByte s b) .executed ≡ (happening (viewOf s) (r .held) ((readOf (r .phase) b) .event)) .executed
+      → let r = s .session .reader in
+      (hostByte s b) .executed ≡ (happening (viewOf s) r (s .session .pad) ((readOf (r .phase) b) .event)) .executed
   pub no-bytes : (running s []) .executed ≡ []
   pub more-bytes : (b : ℕ) (bs : List ℕ)
       → (running s (b ∷ bs)) .executed ≡ (hostByte s b) .executed ++ (running ((hostByte s b) .state) bs) .executed

@@ -5,6 +5,7 @@ pub mod Command
 pub mod Effect
 pub mod Cursor
 pub mod Telnet
+pub mod Pad
 pub mod Subcommand
 pub mod Key
 pub mod Operation

@@ -15,9 +15,12 @@ use Rattle.rules.specs.declared.Fault.the-variants.{
   BadMap,
 }
 
--- the option DET
+-- the options DET and X.3 PAD
 abbrev pub detOption : ℕ
 detOption = 20
+
+abbrev pub x3Option : ℕ
+x3Option = 30
 
 -- ---- the codes of what the terminal sends
 

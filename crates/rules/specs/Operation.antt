@@ -7,19 +7,20 @@ use lib.ListN.{length, take, drop, replicate}
 use Rattle.telnet.specs.declared.Event.{Event}
 use Rattle.telnet.specs.declared.Event.the-variants.{Nothing, Data, Negotiation, Begin, Sub, End, EndBare, Lost}
 use Rattle.telnet.specs.Reader.{readOf}
-use Rattle.screen.specs.Words.{if_then_else_}
-use Rattle.rules.specs.declared.Held.{Held}
+use Rattle.words.specs.Words.{if_then_else_}
 use Rattle.rules.specs.declared.Reader.{Reader}
+use Rattle.rules.specs.declared.Pad.{Pad}
 use Rattle.rules.specs.declared.Refusal.{Refusal}
 use Rattle.rules.specs.declared.Refusal.the-variants.{Taken}
 use Rattle.rules.specs.declared.Answer.{Answer}
 use Rattle.rules.specs.Session.{Screen, State, View, cells, replyRoom, session, freshFrame, fresh, screen, state, viewOf}
 use Rattle.rules.specs.Number.{detOption}
 use Rattle.rules.specs.Refusal.{isTaken, verdict, sizeTests, stateTests}
-use Rattle.rules.specs.Effect.{Effect, Executed, changedAll, spelledAll, quiet}
-use Rattle.rules.specs.Telnet.{heldAfter, negotiated, hostData}
+use Rattle.rules.specs.Effect.{Effect, Executed, changedAll, spelledAll, saying, quiet}
+use Rattle.rules.specs.Telnet.{heldAfter, crAfter, negotiated, hostData}
+use Rattle.rules.specs.Pad.{padAfter, response, passes}
 use Rattle.rules.specs.Subcommand.{subcommand}
-use Rattle.rules.specs.Key.{keyOf, keyTests, pressed}
+use Rattle.rules.specs.Key.{keyOf, keyTests, pressed, padPressed}
 
 -- ---- what an effect does to a state
 
@@ -29,36 +30,44 @@ pub record Ran : Type 0 where
   pub replies : List ℕ
   pub executed : List Executed
 
--- the frame and the screen buffers that an effect leaves, with a reader, and its reply as bytes
-abbrev pub applied : State → Reader → Effect → Ran
-applied s r e =
+-- the frame and the screen buffers that an effect leaves, with a reader and a PAD, and its reply as bytes
+abbrev pub applied : State → Reader → Pad → Effect → Ran
+applied s r p e =
     let b = s .screen in
     record {
-      state = state (session (e .view .frame) r) (screen (changedAll (b .chars) (b .attrs) (e .changes)) (e .view .attrs));
+      state = state (session (e .view .frame) r p) (screen (changedAll (b .chars) (b .attrs) (e .changes)) (e .view .attrs));
       replies = spelledAll (b .chars) (e .reply);
       executed = e .executed;
     }
 
 -- ---- one host byte
 
--- What is done on what the reader told. A subnegotiation that ended is obeyed, with the bytes that were held, if it was option
--- 20's and DET is on.
-unfoldable pub happening : View → Held → Event → Effect
-happening v h Nothing = quiet v
-happening v h (Data b) = hostData v b
-happening v h (Negotiation verb option) = negotiated v verb option
-happening v h (Begin option) = quiet v
-happening v h (Sub option b) = quiet v
-happening v h (End option) = if eqb option detOption && v .frame .det then subcommand v h else quiet v
-happening v h EndBare = quiet v
-happening v h Lost = quiet v
+-- What is done on what the reader told. A subnegotiation that ended is obeyed, with the bytes that were held, if it was option 20's and
+-- DET is on; a message of option 30 may be answered.
+unfoldable pub happening : View → Reader → Pad → Event → Effect
+happening v r p Nothing = quiet v
+happening v r p (Data b) = if passes (v .frame) p (r .cr) b then quiet v else hostData v b
+happening v r p (Negotiation verb option) = negotiated v verb option
+happening v r p (Begin option) = quiet v
+happening v r p (Sub option b) = quiet v
+happening v r p (End option) =
+    if eqb option detOption && v .frame .det then subcommand v (r .held) else saying v (response (v .frame) p option)
+happening v r p EndBare = quiet v
+happening v r p Lost = quiet v
+
+-- where the reader stands after a byte, and what it has read
+abbrev pub readerAfter : Reader → ℕ → Reader
+readerAfter r b =
+    let step = readOf (r .phase) b in
+    record { phase = step .phase; held = heldAfter (r .held) (step .event); cr = crAfter (r .cr) (step .event) }
 
 -- the reader reads it, and what it told is done
 unfoldable pub hostByte : State → ℕ → Ran
 hostByte s b =
     let r = s .session .reader in
-    let step = readOf (r .phase) b in
-    applied s (record { phase = step .phase; held = heldAfter (r .held) (step .event) }) (happening (viewOf s) (r .held) (step .event))
+    let p = s .session .pad in
+    let told = (readOf (r .phase) b) .event in
+    applied s (readerAfter r b) (padAfter (s .session .frame) p told) (happening (viewOf s) r p told)
 
 -- a list of them, one after the other, with no reply buffer in it
 unfoldable pub running : State → List ℕ → Ran
@@ -117,11 +126,15 @@ hostBytes s reply input =
 abbrev pub keyRefusal : State → List ℕ → ℕ → Refusal
 keyRefusal s reply k =
     verdict
-    (sizeTests (s .session .frame) (s .screen) ++ (stateTests (s .session) (s .screen .chars) reply ++ keyTests (viewOf s) (keyOf k)))
+    (sizeTests (s .session .frame) (s .screen)
+    ++ (stateTests (s .session) (s .screen .chars) reply ++ keyTests (viewOf s) (s .session .pad) (keyOf (s .session .frame) k)))
 
 -- the reader stays where it is
 abbrev pub keyRan : State → ℕ → Ran
-keyRan s k = applied s (s .session .reader) (pressed (viewOf s) (keyOf k))
+keyRan s k =
+    let key = keyOf (s .session .frame) k in
+    let p = s .session .pad in
+    applied s (s .session .reader) (padPressed p key) (pressed (viewOf s) p key)
 
 unfoldable pub oneKey : State → List ℕ → ℕ → Outcome
 oneKey s reply k = unless (keyRefusal s reply k) s reply (answering 1 (keyRan s k) reply)

@@ -1,10 +1,10 @@
--- Document 01, "Refusal numbers".
+-- Document 01, "Refusal numbers", and those that document 02 adds.
 use mathlib.Core.Bool.{Bool, _&&_}
 use mathlib.Core.List.{List, [], _∷_}
 use Prim.Native.Nat.{ℕ}
 use lib.Dec.{leb, eqb}
 use lib.ListN.{length}
-use Rattle.screen.specs.Words.{if_then_else_}
+use Rattle.words.specs.Words.{if_then_else_}
 use Rattle.rules.specs.declared.Frame.{Frame}
 use Rattle.rules.specs.declared.Session.{Session}
 use Rattle.rules.specs.declared.Refusal.{Refusal}
@@ -19,6 +19,7 @@ use Rattle.rules.specs.declared.Refusal.the-variants.{
   WrongClass,
   DetOff,
   NoMeaning,
+  LineFull,
 }
 use Rattle.rules.specs.Session.{Screen, sizesOk, cells, replyRoom, allPrintable, sessionOk}
 
@@ -34,6 +35,7 @@ numberOf Guarded = 6
 numberOf WrongClass = 7
 numberOf DetOff = 8
 numberOf NoMeaning = 9
+numberOf LineFull = 10
 
 abbrev pub isTaken : Refusal → Bool
 isTaken r = eqb (numberOf r) 0

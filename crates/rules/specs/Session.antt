@@ -1,16 +1,24 @@
--- Document 01, "Sizes and lent memory": the session, the screen buffers, and what a decision may see of them.
-use mathlib.Core.Bool.{Bool, true, false, _&&_}
+-- Document 01, "Sizes and lent memory", and document 02, request (i): the session, the screen buffers, and what a decision may see
+-- of them.
+use mathlib.Core.Bool.{Bool, true, false, not, _&&_, _||_}
 use mathlib.Core.List.{List, [], _∷_}
 use Prim.Native.Nat.{ℕ, _+_, _*_}
 use lib.Dec.{leb}
 use lib.ListN.{length}
 use Rattle.telnet.specs.declared.Phase.the-variants.{Rest}
-use Rattle.screen.specs.Words.{between}
+use Rattle.words.specs.Words.{between}
+use Rattle.pad.specs.declared.parameter.Values.{Values}
+use Rattle.pad.specs.declared.line.EditLine.{EditLine}
+use Rattle.pad.specs.declared.message.Message.{Message}
+use Rattle.pad.specs.Parameters.{startValues, allAdmissible}
+use Rattle.pad.specs.Line.{lineOf, lineOk}
+use Rattle.pad.specs.Message.{idleMessage}
 use Rattle.screen.specs.declared.cell.Place.{Place}
 use Rattle.screen.specs.Cells.{place, cellOf, onScreen}
 use Rattle.rules.specs.declared.Held.{Held}
 use Rattle.rules.specs.declared.Frame.{Frame}
 use Rattle.rules.specs.declared.Reader.{Reader}
+use Rattle.rules.specs.declared.Pad.{Pad}
 use Rattle.rules.specs.declared.Session.{Session}
 
 -- the widths and heights that a screen may have
@@ -35,32 +43,64 @@ allPrintable (c ∷ cs) = printable c && allPrintable cs
 
 -- ---- the session
 
--- What refusal 4 asks: the cursor on the screen, and at most 6 held bytes. A later request that puts something with a stated
--- range into the session adds it here.
+-- Request (i): with option 30 on, a full edit line must fit the reply room. 37 cells are the fewest for that.
+abbrev pub x3Cells : ℕ
+x3Cells = 37
+
+-- what a PAD may hold: every value admissible, of the half-read message's copy too, and a line in its range
+unfoldable pub padOk : Pad → Bool
+padOk p = allAdmissible (p .values) && (allAdmissible (p .message .copy) && lineOk (p .line))
+
+-- What refusal 4 asks: the cursor on the screen, at most 6 held bytes, option 30 off below its cells, and the PAD in its ranges. A
+-- later request that puts something with a stated range into the session adds it here.
 unfoldable pub sessionOk : Session → Bool
-sessionOk s = let f = s .frame in onScreen (f .width) (f .height) (f .cursor) && leb (s .reader .held .count) 6
+sessionOk s =
+    let f = s .frame in
+    onScreen (f .width) (f .height) (f .cursor)
+    && (leb (s .reader .held .count) 6 && ((not (f .x3) || leb x3Cells (cells f)) && padOk (s .pad)))
 
 -- held bytes 0
 abbrev pub noneHeld : Held
 noneHeld = record { bytes = 0 ∷ 0 ∷ 0 ∷ 0 ∷ 0 ∷ 0 ∷ []; count = 0 }
 
--- what an open starts with: cursor (0,0), DET off, protection in effect; nothing half read
+-- what an open starts with: cursor (0,0), both options off, protection in effect; nothing half read; parameters at their start, an
+-- empty line
 abbrev pub freshFrame : ℕ → ℕ → Frame
-freshFrame m n = record { width = m; height = n; cursor = place 0 0; det = false; suppressed = false }
+freshFrame m n = record { width = m; height = n; cursor = place 0 0; det = false; x3 = false; suppressed = false }
 
-abbrev pub session : Frame → Reader → Session
-session f r = record { frame = f; reader = r }
+abbrev pub freshReader : Reader
+freshReader = record { phase = Rest; held = noneHeld; cr = false }
+
+abbrev pub padWith : Values → EditLine → Message → Pad
+padWith values line message = record { values = values; line = line; message = message }
+
+abbrev pub freshPad : Pad
+freshPad = padWith startValues (lineOf []) idleMessage
+
+abbrev pub session : Frame → Reader → Pad → Session
+session f r p = record { frame = f; reader = r; pad = p }
 
 abbrev pub fresh : ℕ → ℕ → Session
-fresh m n = session (freshFrame m n) (record { phase = Rest; held = noneHeld })
+fresh m n = session (freshFrame m n) freshReader freshPad
 
 -- the frame with the cursor elsewhere
 abbrev pub placed : Frame → Place → Frame
-placed f cursor = record { width = f .width; height = f .height; cursor = cursor; det = f .det; suppressed = f .suppressed }
+placed f cursor =
+    record { width = f .width; height = f .height; cursor = cursor; det = f .det; x3 = f .x3; suppressed = f .suppressed }
 
 -- DET on or off, protection suppressed or in effect
 abbrev pub switched : Frame → Bool → Bool → Frame
-switched f det suppressed = record { width = f .width; height = f .height; cursor = f .cursor; det = det; suppressed = suppressed }
+switched f det suppressed =
+    record { width = f .width; height = f .height; cursor = f .cursor; det = det; x3 = f .x3; suppressed = suppressed }
+
+-- option 30 on or off
+abbrev pub withX3 : Frame → Bool → Frame
+withX3 f x3 =
+    record { width = f .width; height = f .height; cursor = f .cursor; det = f .det; x3 = x3; suppressed = f .suppressed }
+
+-- Request (i): the edit line takes the keys while option 30 is on and DET is off.
+abbrev pub lineTakesKeys : Frame → Bool
+lineTakesKeys f = f .x3 && not (f .det)
 
 -- ---- the screen buffers
 
@@ -79,7 +119,7 @@ pub record State : Type 0 where
 abbrev pub state : Session → Screen → State
 state s b = record { session = s; screen = b }
 
--- ---- what a decision may see: the frame and the attribute bytes, no character and nothing of the reader
+-- ---- what a decision may see: the frame and the attribute bytes; no character, and nothing of the reader and the PAD
 
 pub record View : Type 0 where
   pub frame : Frame
@@ -105,6 +145,9 @@ withCursor v cursor = view (placed (v .frame) cursor) (v .attrs)
 
 abbrev pub withModes : View → Bool → Bool → View
 withModes v det suppressed = view (switched (v .frame) det suppressed) (v .attrs)
+
+abbrev pub withFrame : View → Frame → View
+withFrame v f = view f (v .attrs)
 
 abbrev pub withAttrs : View → List ℕ → View
 withAttrs v attrs = view (v .frame) attrs

@@ -9,7 +9,7 @@ use Rattle.telnet.specs.declared.Verb.the-variants.{Will, Wont, Do, Dont}
 use Rattle.telnet.specs.Reader.{verbCode}
 use Rattle.screen.specs.declared.cell.Place.{Place}
 use Rattle.edit.specs.declared.range.Shift.{Shift}
-use Rattle.screen.specs.Words.{if_then_else_}
+use Rattle.words.specs.Words.{if_then_else_}
 use Rattle.screen.specs.Cells.{placeOf, lineStart, lineEnd}
 use Rattle.screen.specs.Fields.{opensAt, fieldStart, fieldEnd, spanEnd}
 use Rattle.edit.specs.Edits.{formatted}

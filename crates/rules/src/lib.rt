@@ -1,6 +1,9 @@
-// The types of the terminal: the session, what its operations answer, commands and keys by meaning.
-// The rules of document 01 are definitions over them, in specs/; this crate has no code.
+// The types of the terminal: the session, what its operations answer, options, commands and keys by meaning.
+// The rules of documents 01 and 02 are definitions over them, in specs/; this crate has no code.
 use edit::range::Shift;
+use pad::line::EditLine;
+use pad::message::Message;
+use pad::parameter::Values;
 use screen::cell::Place;
 use telnet::Phase;
 
@@ -10,25 +13,42 @@ pub struct Held {
     pub count: u8,
 }
 
-// What the rules go by: the screen's size, the cursor, DET on or off, protection suppressed or in effect.
+// What the rules go by: the screen's size, the cursor, which options are on, protection suppressed or in effect.
 pub struct Frame {
     pub width: u8,
     pub height: u8,
     pub cursor: Place,
     pub det: bool,
+    pub x3: bool,
     pub suppressed: bool,
 }
 
-// How far the host's bytes are read: where the reader stands, and what is held.
+// How far the host's bytes are read: where the reader stands, what is held, and whether the last byte of data was a CR.
 pub struct Reader {
     pub phase: Phase,
     pub held: Held,
+    pub cr: bool,
+}
+
+// What the X.3 PAD keeps: its parameters' values, the edit line, and the message of option 30 as far as it is read.
+pub struct Pad {
+    pub values: Values,
+    pub line: EditLine,
+    pub message: Message,
 }
 
 // All that is kept between two calls, besides the lent buffers.
 pub struct Session {
     pub frame: Frame,
     pub reader: Reader,
+    pub pad: Pad,
+}
+
+// A Telnet option by its meaning.
+pub enum TelnetOption {
+    Det,
+    X3,
+    Other,
 }
 
 // Why a call is refused; `Taken` where it is not.
@@ -43,6 +63,7 @@ pub enum Refusal {
     WrongClass,
     DetOff,
     NoMeaning,
+    LineFull,
 }
 
 // What each operation answers.
@@ -133,5 +154,7 @@ pub enum Key {
     Send,
     Delete,
     Function(u8),
+    // taken by the edit line
+    ToLine(u8),
     Meaningless,
 }

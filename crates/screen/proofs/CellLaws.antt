@@ -9,7 +9,7 @@ use borrow.Author.Tests.{lt-ltb, ltb-true}
 use lib.Dec.{ltb}
 use Rattle.screen.specs.Cells.{place, cellOf, placeOf, onScreen, placeOrOrigin}
 use Rattle.screen.specs.declared.cell.Place.{Place}
-use Rattle.screen.proofs.WordLaws.{and-left, and-right}
+use Rattle.words.proofs.Laws.{and-left, and-right}
 
 -- where the next line starts
 pub next-line : (y m : ℕ) → (y + 1) * m ≡ y * m + m

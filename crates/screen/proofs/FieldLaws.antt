@@ -11,7 +11,8 @@ use Rattle.screen.specs.Words.{firstOf}
 use Rattle.screen.specs.Attributes.{attributeAt, protectedAt}
 use Rattle.screen.specs.Fields.{Run, Field, startsAt, opensAt, firstFrom, fieldStart, fieldEnd, spanEnd}
 use Rattle.screen.specs.Scans.{nextOpen}
-use Rattle.screen.proofs.WordLaws.{less-or-not, true-or-false, not-both, and-right, first-passes, last-passes, first-past, last-past, first-above, first-end, first-below, last-below}
+use Rattle.words.proofs.Laws.{less-or-not, true-or-false, not-both, and-right}
+use Rattle.screen.proofs.WordLaws.{first-passes, last-passes, first-past, last-past, first-above, first-end, first-below, last-below}
 
 module _ (attrs : List ℕ) where
   -- ---- protection

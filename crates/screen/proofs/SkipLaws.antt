@@ -13,7 +13,8 @@ use Rattle.screen.specs.Scans.{isTarget}
 use Rattle.screen.specs.inner.Skips.{NoneIn, passesProtected, passesAlike, passed}
 use Rattle.screen.specs.declared.scan.Target.{Target}
 use Rattle.screen.specs.declared.scan.Target.the-variants.{FieldStart, UnprotectedStart, Open}
-use Rattle.screen.proofs.WordLaws.{less-or-not, not-both, and-false, getD-within, first-skips, last-skips}
+use Rattle.words.proofs.Laws.{less-or-not, not-both, and-false, getD-within}
+use Rattle.screen.proofs.WordLaws.{first-skips, last-skips}
 use Rattle.screen.proofs.FieldLaws.{starts-after}
 
 -- a choice between two that holds

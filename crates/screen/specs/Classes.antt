@@ -2,7 +2,7 @@
 use mathlib.Core.Bool.{Bool, true, _||_}
 use Prim.Native.Nat.{ℕ, _+_}
 use lib.Dec.{eqb}
-use Rattle.screen.specs.Words.{if_then_else_, between}
+use Rattle.words.specs.Words.{if_then_else_, between}
 use Rattle.screen.specs.Attributes.{protection}
 
 -- what an alphabetic cell takes (protection 2): a letter or the space

@@ -5,7 +5,8 @@ use mathlib.Core.List.{List}
 use Prim.Native.Nat.{ℕ, zero, suc, _+_, _-_, _≤_, _<_, min}
 use lib.Dec.{eqb}
 use lib.ListN.{length}
-use Rattle.screen.specs.Words.{if_then_else_, firstOf, lastOf}
+use Rattle.words.specs.Words.{if_then_else_}
+use Rattle.screen.specs.Words.{firstOf, lastOf}
 use Rattle.screen.specs.Attributes.{attributeAt, protectedAt}
 
 -- A run: cells in reading order with equal attribute bytes. `end` is the cell after its last.

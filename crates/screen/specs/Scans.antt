@@ -4,7 +4,7 @@ use mathlib.Core.List.{List}
 use Prim.Native.Nat.{ℕ, _+_, _*_}
 use lib.Dec.{eqb}
 use lib.ListN.{length}
-use Rattle.screen.specs.Words.{if_then_else_}
+use Rattle.words.specs.Words.{if_then_else_}
 use Rattle.screen.specs.Cells.{cellOf, placeOf, onScreen}
 use Rattle.screen.specs.Attributes.{guardedAt}
 use Rattle.screen.specs.Fields.{startsAt, opensAt, firstFrom}

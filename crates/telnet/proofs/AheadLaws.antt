@@ -7,7 +7,8 @@ use mathlib.Core.List.{List, [], _∷_, _++_, map, append-nil}
 use lib.Dec.{eqb, ltb}
 use lib.ListN.{length, getD}
 use borrow.Author.Tests.{not-true, eqb-true, eqb-false, eq-eqb, ne-eqb, ltb-true, lt-ltb, le-ltb}
-use Rattle.telnet.specs.If.{if_then_else_}
+use Rattle.words.specs.Words.{if_then_else_}
+use Rattle.words.proofs.Laws.{and-left, and-right, and-off}
 use Rattle.telnet.specs.declared.Phase.{Phase}
 use Rattle.telnet.specs.declared.Phase.the-variants.{Rest, Iac, Negotiating, Opening, OpeningIac, Inside, InsideIac}
 use Rattle.telnet.specs.declared.Event.the-variants.{Nothing, Begin, Sub, End}
@@ -18,18 +19,6 @@ use Rattle.telnet.specs.Stream.{dataEnd, part, stretchOf, wholeFrom, sub
 use Rattle.telnet.proofs.Laws.{Reads, No255, joined, one, plain-payload-read}
 use Rattle.telnet.proofs.PartLaws.{part-one, part-then}
 use Rattle.telnet.proofs.StretchLaws.{stretch-plain, stretch-length, end-iac, end-forth}
-
-and-false : (a : Bool) → (a && false) ≡ false
-and-false true = refl
-and-false false = refl
-
-and-left : (a b : Bool) → (a && b) ≡ true → a ≡ true
-and-left true b e = refl
-and-left false b e = e
-
-and-right : (a b : Bool) → (a && b) ≡ true → b ≡ true
-and-right true b e = e
-and-right false b e = let z : _≡_ {A = ℕ} 0 1 = cc in absurd (omega arith)
 
 -- ---- anything else: one of the four tests fails
 
@@ -43,18 +32,18 @@ module _ (s : List ℕ) (from : ℕ) where
 
   pub other-option : getD s (from + 1) 0 ≡ iac → subFrom s from ≡ Other
   unfolding subFrom wholeFrom
-  other-option e = rw (e, and-false)
+  other-option e = rw (e, and-off)
 
   pub other-short : length s ≤ end + 1 → subFrom s from ≡ Other
   unfolding subFrom wholeFrom
-  other-short h = simp (le-ltb _ _ h, and-false)
+  other-short h = simp (le-ltb _ _ h, and-off)
 
   pub other-few : length s ≤ from + 3 → subFrom s from ≡ Other
   other-few h = other-short (omega (arith, end-forth s (from + 2)))
 
   pub other-last : (getD s (end + 1) 0 ≡ se → ⊥) → subFrom s from ≡ Other
   unfolding subFrom wholeFrom
-  other-last n = simp (ne-eqb _ _ n, and-false)
+  other-last n = simp (ne-eqb _ _ n, and-off)
 
   -- all four are passed
   pub whole-sub : getD s from 0 ≡ sb → (getD s (from + 1) 0 ≡ iac → ⊥) → end + 1 < length s → getD s (end + 1) 0 ≡ se

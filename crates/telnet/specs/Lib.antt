@@ -1,4 +1,3 @@
-pub mod If
 pub mod Reader
 pub mod Stream
 pub mod Writer

@@ -1,7 +1,7 @@
 -- Document 01, "Telnet bytes": what one byte does to the reader. Behind it stand RFC 854 and RFC 855.
 use Prim.Native.Nat.{ℕ}
 use lib.Dec.{eqb}
-use Rattle.telnet.specs.If.{if_then_else_}
+use Rattle.words.specs.Words.{if_then_else_}
 use Rattle.telnet.specs.declared.Verb.{Verb}
 use Rattle.telnet.specs.declared.Verb.the-variants.{Will, Wont, Do, Dont}
 use Rattle.telnet.specs.declared.Phase.{Phase}

@@ -4,7 +4,7 @@ use mathlib.Core.Bool.{Bool, not, _&&_}
 use mathlib.Core.List.{List, [], _∷_, _++_}
 use lib.Dec.{eqb, ltb}
 use lib.ListN.{length, take, drop, getD}
-use Rattle.telnet.specs.If.{if_then_else_}
+use Rattle.words.specs.Words.{if_then_else_}
 use Rattle.telnet.specs.declared.Phase.{Phase}
 use Rattle.telnet.specs.declared.Phase.the-variants.{Rest, Iac, Negotiating, Opening, OpeningIac, Inside, InsideIac}
 use Rattle.telnet.specs.declared.Event.{Event}

@@ -2,7 +2,7 @@
 use Prim.Native.Nat.{ℕ}
 use mathlib.Core.List.{List, [], _∷_, _++_}
 use lib.Dec.{eqb}
-use Rattle.telnet.specs.If.{if_then_else_}
+use Rattle.words.specs.Words.{if_then_else_}
 use Rattle.telnet.specs.declared.Verb.{Verb}
 use Rattle.telnet.specs.Reader.{iac, sb, se, verbCode}
 

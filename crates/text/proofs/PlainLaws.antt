@@ -12,7 +12,7 @@ use lib.Seq.{paste, paste-zero, paste-suc, getD-drop, set-set}
 use Rattle.screen.specs.Attributes.{protection, protectedAt, guardedAt}
 use Rattle.screen.specs.Cells.{place, cellOf}
 use Rattle.edit.specs.Edits.{lies, Copied}
-use Rattle.screen.proofs.WordLaws.{true-or-false, less-or-not, both, getD-within}
+use Rattle.words.proofs.Laws.{true-or-false, less-or-not, both, getD-within}
 use Rattle.edit.proofs.EditLaws.{copied-whole}
 use Rattle.rules.specs.declared.Frame.{Frame}
 use Rattle.rules.specs.Session.{View, printable, placed, screen, view}

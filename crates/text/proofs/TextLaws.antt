@@ -6,7 +6,7 @@ use native.Mathlib.Numerals.{add-one}
 use lib.Dec.{eqb}
 use lib.ListN.{length, getD, take}
 use lib.Seq.{take-suc, take-all}
-use Rattle.screen.proofs.WordLaws.{either}
+use Rattle.words.proofs.Laws.{either}
 use Rattle.rules.specs.declared.Frame.{Frame}
 use Rattle.rules.specs.Session.{View, printable, screen, view}
 use Rattle.rules.specs.Effect.{Effect, changedAll, changing}

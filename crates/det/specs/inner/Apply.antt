@@ -8,7 +8,7 @@ use Rattle.rules.specs.Session.{Screen, view}
 use Rattle.rules.specs.Effect.{Effect, spelledAll}
 use Rattle.command.specs.inner.Frame.{Fits}
 use Rattle.text.specs.Text.{Changes}
-use Rattle.reply.specs.inner.Reply.{Room, Emitted}
+use Rattle.words.specs.Stored.{Room, Emitted}
 use Rattle.det.specs.declared.apply.Applied.{Applied}
 
 -- the characters and the attribute bytes afterwards, and the reply from `at` on, written from the characters as they were

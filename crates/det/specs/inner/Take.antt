@@ -12,7 +12,7 @@ use Rattle.rules.specs.declared.Refusal.the-variants.{Taken}
 use Rattle.rules.specs.Session.{Screen, State, session, state}
 use Rattle.rules.specs.Telnet.{heldAfter}
 use Rattle.rules.specs.Operation.{Outcome, running, answering, takenOf, hostRefusal, hostRan, keyRan}
-use Rattle.reply.specs.inner.Reply.{Emitted}
+use Rattle.words.specs.Stored.{Emitted}
 use Rattle.det.specs.declared.take.Turn.{Turn}
 use Rattle.det.specs.declared.take.Told.{Told}
 

@@ -11,11 +11,14 @@ use lib.ListN.{length, replicate}
 use Rattle.telnet.specs.declared.Phase.{Phase}
 use Rattle.telnet.specs.declared.Phase.the-variants.{Rest, Iac, Negotiating, Opening, OpeningIac, Inside, InsideIac}
 use Rattle.telnet.specs.Reader.{verbCode}
-use Rattle.screen.specs.Words.{if_then_else_}
+use Rattle.words.specs.Words.{if_then_else_}
+use Rattle.pad.specs.declared.message.Stage.{Stage}
+use Rattle.pad.specs.declared.message.Stage.the-variants.{Code, Parameter, Value}
 use Rattle.screen.specs.Cells.{place}
 use Rattle.rules.specs.declared.Reader.{Reader}
 use Rattle.rules.specs.declared.Frame.{Frame}
-use Rattle.rules.specs.Session.{Screen, State, session, screen, state}
+use Rattle.rules.specs.declared.Pad.{Pad}
+use Rattle.rules.specs.Session.{Screen, State, freshPad, session, screen, state}
 use Rattle.rules.specs.Refusal.{numberOf}
 use Rattle.rules.specs.Operation.{Outcome, opened}
 use Rattle.rules.specs.Call.{Call, host, key, called, left}
@@ -103,9 +106,9 @@ observed cases = map (λ c. c .observed) cases
 -- ---- a case that fails is named by its title
 
 -- what is seen but for its lists, as numbers
-abbrev pub bit : Bool → ℕ
-bit true = 1
-bit false = 0
+abbrev pub flag : Bool → ℕ
+flag true = 1
+flag false = 0
 
 unfoldable pub phaseNumbers : Phase → List ℕ
 phaseNumbers Rest = 0 ∷ 0 ∷ []
@@ -121,7 +124,13 @@ numbers o =
     let f = o .left .session .frame in
     let r = o .left .session .reader in
     o .refusal ∷ o .taken ∷ o .written ∷ f .width ∷ f .height ∷ f .cursor .x .0 ∷ f .cursor .y .0
-    ∷ bit (f .det) ∷ bit (f .suppressed) ∷ r .held .count ∷ phaseNumbers (r .phase)
+    ∷ flag (f .det) ∷ flag (f .x3) ∷ flag (f .suppressed) ∷ flag (r .cr) ∷ o .left .session .pad .line .len ∷ r .held .count
+    ∷ phaseNumbers (r .phase)
+
+unfoldable pub stageNumbers : Stage → List ℕ
+stageNumbers Code = 0 ∷ 0 ∷ 0 ∷ []
+stageNumbers (Parameter code) = 1 ∷ code ∷ 0 ∷ []
+stageNumbers (Value code parameter) = 2 ∷ code ∷ parameter ∷ []
 
 unfoldable pub same : List ℕ → List ℕ → Bool
 same [] [] = true
@@ -129,12 +138,19 @@ same [] (y ∷ ys) = false
 same (x ∷ xs) [] = false
 same (x ∷ xs) (y ∷ ys) = eqb x y && same xs ys
 
+unfoldable pub samePad : Pad → Pad → Bool
+samePad p q =
+    same (p .values .held) (q .values .held)
+    && (same (p .line .bytes) (q .line .bytes)
+    && (same (p .message .copy .held) (q .message .copy .held) && same (stageNumbers (p .message .stage)) (stageNumbers (q .message .stage))))
+
 unfoldable pub sameSeen : Seen → Seen → Bool
 sameSeen a b =
     same (numbers a) (numbers b)
+    && (samePad (a .left .session .pad) (b .left .session .pad)
     && (same (a .left .session .reader .held .bytes) (b .left .session .reader .held .bytes)
     && (same (a .left .screen .chars) (b .left .screen .chars)
-    && (same (a .left .screen .attrs) (b .left .screen .attrs) && same (a .reply) (b .reply))))
+    && (same (a .left .screen .attrs) (b .left .screen .attrs) && same (a .reply) (b .reply)))))
 
 unfoldable pub sameAll : List Seen → List Seen → Bool
 sameAll [] [] = true
@@ -181,31 +197,49 @@ Everywhere w = (n : ℕ) → n < 256 → w .seen n ≡ w .shows n
 
 -- ---- states
 
-abbrev framed : ℕ → ℕ → ℕ → ℕ → Bool → Bool → Frame
-framed m n x y det suppressed = record { width = m; height = n; cursor = place x y; det = det; suppressed = suppressed }
+abbrev framed : ℕ → ℕ → ℕ → ℕ → Bool → Bool → Bool → Frame
+framed m n x y det x3 suppressed = record { width = m; height = n; cursor = place x y; det = det; x3 = x3; suppressed = suppressed }
 
 -- where the reader stands, and the bytes held
-abbrev reader : Phase → List ℕ → Reader
-reader phase held = record { phase = phase; held = record { bytes = held ++ replicate (6 - length held) 0; count = length held } }
+abbrev reader : Phase → List ℕ → Bool → Reader
+reader phase held cr = record { phase = phase; held = record { bytes = held ++ replicate (6 - length held) 0; count = length held }; cr = cr }
 
 -- a start with DET on
 abbrev pub starting : ℕ → ℕ → Bool → List ℕ → List ℕ → ℕ → ℕ → State
-starting m n suppressed chars attrs x y = state (session (framed m n x y true suppressed) (reader Rest [])) (screen chars attrs)
+starting m n suppressed chars attrs x y =
+    state (session (framed m n x y true false suppressed) (reader Rest [] false) freshPad) (screen chars attrs)
 
--- a state with one thing else, and all other things as they were: the cursor, the modes, the reader with the bytes held, the
--- characters, the attribute bytes
+-- a state with one thing else, and all other things as they were: the cursor, the modes, the reader with the bytes held, whether the
+-- last byte of data was a CR, option 30 on, the PAD, the characters, the attribute bytes
 abbrev pub at : ℕ → ℕ → State → State
 at x y s =
     let f = s .session .frame in
-    state (session (framed (f .width) (f .height) x y (f .det) (f .suppressed)) (s .session .reader)) (s .screen)
+    state (session (framed (f .width) (f .height) x y (f .det) (f .x3) (f .suppressed)) (s .session .reader) (s .session .pad)) (s .screen)
 
 abbrev pub modes : Bool → Bool → State → State
 modes det suppressed s =
     let f = s .session .frame in
-    state (session (framed (f .width) (f .height) (f .cursor .x .0) (f .cursor .y .0) det suppressed) (s .session .reader)) (s .screen)
+    state
+    (session (framed (f .width) (f .height) (f .cursor .x .0) (f .cursor .y .0) det (f .x3) suppressed) (s .session .reader) (s .session .pad))
+    (s .screen)
 
 abbrev pub reading : Phase → List ℕ → State → State
-reading phase held s = state (session (s .session .frame) (reader phase held)) (s .screen)
+reading phase held s = state (session (s .session .frame) (reader phase held (s .session .reader .cr)) (s .session .pad)) (s .screen)
+
+abbrev pub afterCr : Bool → State → State
+afterCr cr s =
+    let r = s .session .reader in
+    state (session (s .session .frame) (record { phase = r .phase; held = r .held; cr = cr }) (s .session .pad)) (s .screen)
+
+abbrev pub editing : Bool → State → State
+editing x3 s =
+    let f = s .session .frame in
+    state
+    (session (framed (f .width) (f .height) (f .cursor .x .0) (f .cursor .y .0) (f .det) x3 (f .suppressed)) (s .session .reader) (s .session .pad))
+    (s .screen)
+
+abbrev pub padded : Pad → State → State
+padded p s = state (session (s .session .frame) (s .session .reader) p) (s .screen)
 
 abbrev pub showing : List ℕ → State → State
 showing chars s = state (s .session) (screen chars (s .screen .attrs))
@@ -234,5 +268,5 @@ refusedTrial number room call = record { call = call; room = room; refusal = num
 
 -- names what a proof about cases computes with, beside the rules
 unfoldable pub seeing : ℕ
-unfolding characters expectedIn observedIn phaseNumbers numbers same sameSeen sameAll failures
+unfolding characters expectedIn observedIn phaseNumbers numbers stageNumbers same samePad sameSeen sameAll failures
 seeing = 0

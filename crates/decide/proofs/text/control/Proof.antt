@@ -1,6 +1,6 @@
 -- `control` meets its contract: CR, LF, BS, and any other byte.
 use borrow.Author.Tests.{ne-eqb}
-use Rattle.screen.proofs.WordLaws.{true-or-false}
+use Rattle.words.proofs.Laws.{true-or-false}
 use Rattle.rules.specs.Session.{printable}
 use Rattle.rules.specs.Cursor.{destination}
 use Rattle.rules.specs.Telnet.{hostData}

@@ -1,6 +1,6 @@
 -- `from_ahead` meets its contract.
 use Rattle.edit.proofs.Kit.{_-_, arith, needs, lt-ltb, le-ltb}
-use Rattle.screen.proofs.WordLaws.{getD-within}
+use Rattle.words.proofs.Laws.{getD-within}
 use Rattle.edit.proofs.range.from_ahead.Statement.{statement}
 use Rattle.edit.proofs.range.from_ahead.Tie as tie
 

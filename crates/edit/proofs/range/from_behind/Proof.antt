@@ -1,6 +1,6 @@
 -- `from_behind` meets its contract.
 use Rattle.edit.proofs.Kit.{sym, _+_, arith, List·getD-eq-default, needs}
-use Rattle.screen.proofs.WordLaws.{getD-within}
+use Rattle.words.proofs.Laws.{getD-within}
 use Rattle.edit.proofs.range.from_behind.Statement.{statement}
 use Rattle.edit.proofs.range.from_behind.Tie as tie
 

@@ -3,7 +3,7 @@ use mathlib.Core.Path.{refl}
 use mathlib.Core.Bool.{false}
 use borrow.Author.Needs.{needs}
 use borrow.Author.Tests.{not-false}
-use Rattle.screen.proofs.WordLaws.{not-both}
+use Rattle.words.proofs.Laws.{not-both}
 use Rattle.reply.proofs.single.are_singles.Statement.{statement}
 use Rattle.reply.proofs.single.are_singles.Tie as tie
 

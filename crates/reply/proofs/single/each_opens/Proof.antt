@@ -4,7 +4,7 @@ use mathlib.Core.Bool.{true}
 use Prim.Native.Nat.{_-_, _≤_}
 use native.Mathlib.Omega.{arith}
 use borrow.Author.Needs.{needs}
-use Rattle.screen.proofs.WordLaws.{and-left, and-right}
+use Rattle.words.proofs.Laws.{and-left, and-right}
 use Rattle.reply.specs.inner.Single.{EachOpens}
 use Rattle.reply.proofs.SingleLaws.{open-none, open-next}
 use Rattle.reply.proofs.single.each_opens.Statement.{statement}

@@ -5,7 +5,7 @@ use Prim.Native.Nat.{_-_}
 use native.Mathlib.Omega.{arith}
 use borrow.Author.Needs.{needs}
 use borrow.Author.Tests.{leb-true}
-use Rattle.screen.proofs.WordLaws.{not-both}
+use Rattle.words.proofs.Laws.{not-both}
 use Rattle.reply.proofs.single.reaches.Statement.{statement}
 use Rattle.reply.proofs.single.reaches.Tie as tie
 

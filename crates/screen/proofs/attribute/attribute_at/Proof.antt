@@ -1,6 +1,6 @@
 -- `attribute_at` meets its contract: within the slice every value for what lies beyond reads the same byte.
 use Rattle.screen.proofs.Kit.{sym, arith, List·getD-eq-default, needs}
-use Rattle.screen.proofs.WordLaws.{getD-within}
+use Rattle.words.proofs.Laws.{getD-within}
 use Rattle.screen.proofs.attribute.attribute_at.Statement.{statement}
 use Rattle.screen.proofs.attribute.attribute_at.Tie as tie
 

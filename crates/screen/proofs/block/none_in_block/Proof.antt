@@ -1,6 +1,6 @@
 -- `none_in_block` meets its contract: what is true so far is true of each.
 use Rattle.screen.proofs.Kit.{_≡_, sym, _∙_, true, _-_, _≤_, arith, needs}
-use Rattle.screen.proofs.WordLaws.{and-left, and-right}
+use Rattle.words.proofs.Laws.{and-left, and-right}
 use Rattle.screen.proofs.SkipLaws.{AllPassed, passed-none, passed-next, passed-none-in}
 use Rattle.screen.proofs.block.none_in_block.Statement.{statement}
 use Rattle.screen.proofs.block.none_in_block.Tie as tie

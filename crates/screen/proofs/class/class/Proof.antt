@@ -1,8 +1,8 @@
 -- `class` meets its contract: the whole table is computed once from the rule.
 use Rattle.screen.proofs.Kit.{needs}
-use Rattle.screen.specs.Words.{tabulate}
+use Rattle.words.specs.Words.{tabulate}
 use Rattle.screen.specs.Classes.{classOf}
-use Rattle.screen.proofs.WordLaws.{getD-tabulate}
+use Rattle.words.proofs.Laws.{getD-tabulate}
 use Rattle.screen.proofs.class.class.Statement.{statement}
 use Rattle.screen.proofs.class.class.Tie as tie
 

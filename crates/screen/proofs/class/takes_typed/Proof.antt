@@ -1,6 +1,6 @@
 -- `takes_typed` meets its contract: an entry's two bits are the two classes.
 use Rattle.screen.proofs.Kit.{_≡_, refl, Bool, true, false, ℕ, _+_, _%_, _/_, eqb, needs, ne-eqb}
-use Rattle.screen.specs.Words.{if_then_else_}
+use Rattle.words.specs.Words.{if_then_else_}
 use Rattle.screen.specs.Classes.{alphabetic, numeric, classOf, takes}
 use Rattle.screen.proofs.class.takes_typed.Statement.{statement}
 use Rattle.screen.proofs.class.takes_typed.Tie as tie

@@ -3,7 +3,7 @@ use mathlib.Core.Path.{refl}
 use mathlib.Core.Bool.{false}
 use borrow.Author.Tests.{leb-true}
 use borrow.Author.Needs.{needs}
-use Rattle.screen.proofs.WordLaws.{not-both}
+use Rattle.words.proofs.Laws.{not-both}
 use Rattle.text.proofs.PlainLaws.{last-cell}
 use Rattle.text.proofs.plain.at_last_cell.Statement.{statement}
 use Rattle.text.proofs.plain.at_last_cell.Tie as tie

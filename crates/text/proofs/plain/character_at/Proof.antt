@@ -2,7 +2,7 @@
 use mathlib.Core.Path.{refl, sym, _∙_}
 use mathlib.Core.Bool.{false}
 use borrow.Author.Needs.{needs}
-use Rattle.screen.proofs.WordLaws.{not-both}
+use Rattle.words.proofs.Laws.{not-both}
 use Rattle.text.proofs.plain.character_at.Statement.{statement}
 use Rattle.text.proofs.plain.character_at.Tie as tie
 

@@ -1,8 +1,0 @@
--- A choice by a test.
-use mathlib.Core.Bool.{Bool, true, false}
-
-infixr 1 if_then_else_
-module _ {ℓ} {A : Type ℓ} where
-  abbrev pub if_then_else_ : Bool → A → A → A
-  if_then_else_ true x y = x
-  if_then_else_ false x y = y

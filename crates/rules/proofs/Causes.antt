@@ -32,17 +32,16 @@ use Rattle.rules.specs.declared.Command.the-variants.{Facilities, MoveCu
 use Rattle.rules.specs.declared.Fault.{Fault}
 use Rattle.rules.specs.declared.Fault.the-variants.{NoFault, UnknownCode, OffScreen, TooManyParameters, TooFewParameters, BadValue, BadMap}
 use Rattle.rules.specs.declared.Key.{Key}
-use Rattle.rules.specs.declared.Key.the-variants.{ToLine}
 use Rattle.rules.specs.Session.{View, State, printable, cells, x3Cells, withX3, lineTakesKeys, viewOf, cursorCell, screenEnd, withCursor, withModes, withFrame, withAttrs}
 use Rattle.rules.specs.Effect.{Effect, Executed, Change, Part, changedAll, changing, saying, quiet}
 use Rattle.rules.specs.Command.{Row, rows, Listed, listed, unlisted, rowOf, codeIn, parameter, formatCount, valueFault, faultOf}
 use Rattle.rules.specs.Cursor.{cursorGuarded}
 use Rattle.rules.specs.Telnet.{isOn, accepts, turned, switchedOn, switchedOff, negotiated, hostCharacter, hostCharacters, hostData, hostText}
-use Rattle.rules.specs.Pad.{empties, padAfter, padTyped, echoedAt, passes}
+use Rattle.rules.specs.Pad.{empties, padAfter, takesKey, padTyped, echoedAt, typedTo, passes}
 use Rattle.rules.specs.Subcommand.{transmitted, erasure, suppressing, obeyed, judged, looked, subcommand}
-use Rattle.rules.specs.Key.{meaningOf, keyOf, pressed, padPressed}
+use Rattle.rules.specs.Key.{keyOf, pressed}
 use Rattle.rules.specs.Refusal.{isTaken}
-use Rattle.rules.specs.Operation.{happening, hostByte, applied, running, unless, hostBytes, hostRefusal, oneKey, keyRefusal}
+use Rattle.rules.specs.Operation.{happening, hostByte, applied, running, unless, hostBytes, hostRefusal, pressEffect, padPressed, oneKey, keyRefusal}
 use Rattle.rules.specs.Call.{host, key, called}
 use Rattle.rules.specs.Executed.{oneOf}
 use Rattle.rules.specs.Causes.{Aspect, attributes, det, x3, suppression, characters, cursor, values, line, Same, changers, byte, execution, negotiation, keystroke, typing, mayChange, commandCause, messageCause, causeOf, causesIn, keyCause, causesOf, noneChanges, NothingElse, ReaderKept}
@@ -333,10 +332,10 @@ module _ (v : View) where
 
   -- ---- a key
 
-  leaves-meaning : (p : Pad) (k : ℕ) → Leaves (λ a. mayChange a (keystroke k)) v (pressed v p (meaningOf k))
-  unfolding meaningOf pressed transmitted mayChange changers oneOf
-  leaves-meaning p k =
-      let L : Key → Type 0 = λ key. Leaves (λ a. mayChange a (keystroke k)) v (pressed v p key) in
+  leaves-meaning : (k : ℕ) → Leaves (λ a. mayChange a (keystroke k)) v (pressed v (keyOf k))
+  unfolding keyOf pressed transmitted mayChange changers oneOf
+  leaves-meaning k =
+      let L : Key → Type 0 = λ key. Leaves (λ a. mayChange a (keystroke k)) v (pressed v key) in
       either L (printable k) (λ q. writes (rw q) (rw q))
       (λ q. either L (eqb k 8) (λ e. moves (rw (q, e)))
       (λ e. either L (eqb k 9) (λ f. moves (rw (q, e, f)))
@@ -354,8 +353,8 @@ module _ (v : View) where
       rw (and-off (eqb (valueOf vs 15) 1))
       (either (λ kind. E (echoBy kind vs text 0)) (forwards vs 0) (λ q. echo) (λ q. either E (full text) (λ q. refl) (λ q. echo)))
 
-  leaves-typed : (p : Pad) (k : ℕ) → ltb k 128 ≡ true → Leaves (λ a. mayChange a (typing k)) v (pressed v p (ToLine k))
-  unfolding pressed mayChange changers
+  leaves-typed : (p : Pad) (k : ℕ) → ltb k 128 ≡ true → Leaves (λ a. mayChange a (typing k)) v (typedTo v p k)
+  unfolding typedTo mayChange changers
   leaves-typed p k h =
       true-or-false (eqb k 0)
       (λ e. rw (eqb-true k 0 e, zero-echo p) says)
@@ -364,31 +363,22 @@ module _ (v : View) where
       let text = leaves-text {may = λ a. mayChange a (typing k)} some some (echoedAt p k) v in
       leaving (text .the-attributes) (text .the-det) (text .the-x3) (text .the-suppression) (text .the-characters) (text .the-cursor))
 
-  leaves-key : (p : Pad) (k : ℕ) → Leaves (λ a. mayChange a (keyCause (v .frame) k)) v (pressed v p (keyOf (v .frame) k))
-  unfolding keyOf keyCause
-  leaves-key p k =
-      true-or-false (lineTakesKeys (v .frame) && ltb k 128)
-      (λ e. rw e (leaves-typed p k (and-right (lineTakesKeys (v .frame)) _ e))) (λ e. rw e (leaves-meaning p k))
+leaves-key : (s : State) (k : ℕ) → Leaves (λ a. mayChange a (keyCause (s .session .frame) k)) (viewOf s) (pressEffect s k)
+unfolding keyCause
+leaves-key s k =
+    let f = s .session .frame in
+    true-or-false (takesKey f k) (λ e. rw e (leaves-typed (viewOf s) (s .session .pad) k (and-right (lineTakesKeys f) _ e)))
+    (λ e. rw e (leaves-meaning (viewOf s) k))
 
-  meaning-pad : (p : Pad) (k : ℕ) → padPressed p (meaningOf k) ≡ p
-  unfolding meaningOf padPressed
-  meaning-pad p k =
-      let K : Key → Type 0 = λ key. padPressed p key ≡ p in
-      either K (printable k) (λ q. refl)
-      (λ q. either K (eqb k 8) (λ q. refl)
-      (λ q. either K (eqb k 9) (λ q. refl)
-      (λ q. either K (eqb k 13) (λ q. refl)
-      (λ q. either K (eqb k 127) (λ q. refl) (λ q. either K (between 128 143 k) (λ q. refl) (λ q. refl))))))
-
-  key-pad : (p : Pad) (k : ℕ) → LeavesPad (λ a. mayChange a (keyCause (v .frame) k)) p (padPressed p (keyOf (v .frame) k))
-  unfolding keyOf keyCause padPressed padTyped mayChange changers
-  key-pad p k =
-      true-or-false (lineTakesKeys (v .frame) && ltb k 128)
-      (λ e.
-      let typed : between 0 127 k ≡ true =
-      in-between 0 127 k (omega arith) (omega (arith, ltb-true k 128 (and-right (lineTakesKeys (v .frame)) _ e))) in
-      rw e (record { the-values = same; the-line = not-both _ typed }))
-      (λ e. rw (e, meaning-pad p k) (record { the-values = same; the-line = same }))
+key-pad : (s : State) (k : ℕ) → LeavesPad (λ a. mayChange a (keyCause (s .session .frame) k)) (s .session .pad) (padPressed s k)
+unfolding keyCause padTyped mayChange changers
+key-pad s k =
+    let f = s .session .frame in
+    true-or-false (takesKey f k)
+    (λ e.
+    let typed : between 0 127 k ≡ true = in-between 0 127 k (omega arith) (omega (arith, ltb-true k 128 (and-right (lineTakesKeys f) _ e))) in
+    rw e (record { the-values = same; the-line = not-both _ typed }))
+    (λ e. rw e (record { the-values = same; the-line = same }))
 
 -- ---- from an effect to a call
 
@@ -441,11 +431,10 @@ unfolding called hostBytes oneKey unless causesOf noneChanges
 nothing-else a s (host input reply) =
     true-or-false (isTaken (hostRefusal s reply)) (λ e. rw e (λ n. same-run a s _ n)) (λ e. rw e (λ n. same-refl a s))
 nothing-else a s (key k reply) =
-    let p = s .session .pad in
     let may = mayChange a (keyCause (s .session .frame) k) in
     true-or-false (isTaken (keyRefusal s reply k))
     (λ e. rw e
-    (λ n. same-applied a s _ _ _ (not-true _ (and-left (not may) _ n)) (leaves-key (viewOf s) p k) (key-pad (viewOf s) p k)))
+    (λ n. same-applied a s _ _ _ (not-true _ (and-left (not may) _ n)) (leaves-key s k) (key-pad s k)))
     (λ e. rw e (λ n. same-refl a s))
 
 pub reader-kept : ReaderKept

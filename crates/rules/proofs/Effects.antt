@@ -4,8 +4,8 @@ use mathlib.Core.Bool.{Bool, true, false, _&&_}
 use mathlib.Core.List.{List, [], _∷_}
 use Prim.Native.Nat.{ℕ, zero, suc, _*_, _≤_, _<_}
 use native.Mathlib.Omega.{arith}
-use borrow.Author.Tests.{leb-true, ltb-true}
-use lib.Dec.{leb, ltb, eqb}
+use borrow.Author.Tests.{leb-true}
+use lib.Dec.{leb, eqb}
 use lib.ListN.{length, length-replicate}
 use Rattle.telnet.specs.declared.Verb.{Verb}
 use Rattle.telnet.specs.declared.Verb.the-variants.{Will, Wont, Do, Dont}
@@ -21,7 +21,6 @@ use Rattle.words.proofs.Laws.{either, not-both, and-left, and-right}
 use Rattle.edit.proofs.EditLaws.{formatted-length}
 use Rattle.pad.specs.Message.{ended}
 use Rattle.rules.specs.declared.Held.{Held}
-use Rattle.rules.specs.declared.Frame.{Frame}
 use Rattle.rules.specs.declared.Reader.{Reader}
 use Rattle.rules.specs.declared.Pad.{Pad}
 use Rattle.rules.specs.declared.Facility.{Facility}
@@ -34,21 +33,21 @@ use Rattle.rules.specs.declared.Command.the-variants.{Facilities, MoveCu
 use Rattle.rules.specs.declared.Fault.{Fault}
 use Rattle.rules.specs.declared.Fault.the-variants.{NoFault, UnknownCode, OffScreen, TooManyParameters, TooFewParameters, BadValue, BadMap}
 use Rattle.rules.specs.declared.Key.{Key}
-use Rattle.rules.specs.declared.Key.the-variants.{Typed, Back, Tab, Send, Delete, Function, ToLine, Meaningless}
-use Rattle.rules.specs.Session.{View, printable, cells, x3Cells, padOk, lineTakesKeys}
+use Rattle.rules.specs.declared.Key.the-variants.{Typed, Back, Tab, Send, Delete, Function, Meaningless}
+use Rattle.rules.specs.Session.{View, State, printable, cells, x3Cells, lineTakesKeys, viewOf}
 use Rattle.rules.specs.Effect.{Effect, Change, Part, bytes, text, changedAll, message, changing, saying, quiet}
 use Rattle.rules.specs.Number.{detOption, dataTransmit, cursorPosition, error, ownMap}
 use Rattle.rules.specs.Cursor.{cursorGuarded, destination}
 use Rattle.rules.specs.Telnet.{isOn, accepts, turned, switchedOn, switchedOff, negotiated, hostCharacter, hostCharacters, hostData, hostText}
-use Rattle.rules.specs.Pad.{isX3, counts, response, sentAt, echoedAt, passes}
+use Rattle.rules.specs.Pad.{isX3, counts, response, takesKey, echoedAt, typedTo, passes}
 use Rattle.rules.specs.Command.{Row, Listed, listed, unlisted, parameter, placeIn, valueFault, faultOf}
 use Rattle.rules.specs.Subcommand.{preface, unlessGuarded, fieldFrom, transmitted, erasure, shifting, suppressing, obeyed, judged, looked, subcommand}
-use Rattle.rules.specs.Key.{meaningOf, keyOf, pressed}
-use Rattle.rules.specs.Operation.{happening}
+use Rattle.rules.specs.Key.{keyOf, pressed}
+use Rattle.rules.specs.Operation.{happening, pressEffect}
 use Rattle.rules.proofs.Characters.{Text, Fine, text-changed, changed-append}
 use Rattle.rules.proofs.Errors.{no-fault}
 use Rattle.rules.proofs.Options.{by-option}
-use Rattle.rules.proofs.Pads.{sent-most}
+use Rattle.rules.proofs.Pads.{SoundPad, sent-most}
 use Rattle.rules.proofs.Replies.{InRoom, Follows, fits-nothing, fits-bytes, fits-within, fits-prefaced, place-message, error-message, function-message, response-message, one-text, no-text, fields-text}
 use Rattle.rules.proofs.Views.{On, SoundView, at-place, switched, turned-x3, attributed, limited-on, place-on, some, field-lt, cursor-lt, destination-on, goes}
 
@@ -280,56 +279,53 @@ executed-one k r p e = keeps-happening k r p e .executed
 
 -- ---- a key
 
--- Only printable characters are typed; the edit line takes 0 to 127, while option 30 is on.
-abbrev pub Typable : Frame → Key → Type 0
-Typable f (Typed c) = printable c ≡ true
-Typable f Back = Unit {0}
-Typable f Tab = Unit {0}
-Typable f Send = Unit {0}
-Typable f Delete = Unit {0}
-Typable f (Function n) = Unit {0}
-Typable f (ToLine k) = (f .x3 ≡ true) × (k < 128)
-Typable f Meaningless = Unit {0}
+-- only printable characters are typed
+abbrev pub Typable : Key → Type 0
+Typable (Typed c) = printable c ≡ true
+Typable Back = Unit {0}
+Typable Tab = Unit {0}
+Typable Send = Unit {0}
+Typable Delete = Unit {0}
+Typable (Function n) = Unit {0}
+Typable Meaningless = Unit {0}
 
 -- and what a key means is typable
-meaning-typable : (f : Frame) (code : ℕ) → Typable f (meaningOf code)
-unfolding meaningOf
-meaning-typable f code =
-    let T : Key → Type 0 = Typable f in
-    either T (printable code) (λ p. p)
-    (λ p. either T (eqb code 8) (λ p. tt)
-    (λ p. either T (eqb code 9) (λ p. tt)
-    (λ p. either T (eqb code 13) (λ p. tt)
-    (λ p. either T (eqb code 127) (λ p. tt)
-    (λ p. either T (between 128 143 code) (λ p. tt) (λ p. tt))))))
-
-pub typable : (f : Frame) (code : ℕ) → Typable f (keyOf f code)
+pub typable : (code : ℕ) → Typable (keyOf code)
 unfolding keyOf
-typable f code =
-    either (Typable f) (lineTakesKeys f && ltb code 128)
-    (λ e.
-    let takes = and-left (lineTakesKeys f) _ e in
-    (and-left (f .x3) _ takes, ltb-true code 128 (and-right (lineTakesKeys f) _ e)))
-    (λ e. meaning-typable f code)
+typable code =
+    either Typable (printable code) (λ p. p)
+    (λ p. either Typable (eqb code 8) (λ p. tt)
+    (λ p. either Typable (eqb code 9) (λ p. tt)
+    (λ p. either Typable (eqb code 13) (λ p. tt)
+    (λ p. either Typable (eqb code 127) (λ p. tt)
+    (λ p. either Typable (between 128 143 code) (λ p. tt) (λ p. tt))))))
 
-keeps-pressed : {m n : ℕ} {v : View} → SoundView m n v → (p : Pad) → padOk p ≡ true → (key : Key) → Typable (v .frame) key → Keeps m n (pressed v p key)
+keeps-pressed : {m n : ℕ} {v : View} → SoundView m n v → (key : Key) → Typable key → Keeps m n (pressed v key)
 unfolding pressed
-keeps-pressed k p o (Typed c) t = changes (goes k NextOpen) _ t
-keeps-pressed k p o Back t = quietly (goes k PreviousOpen)
-keeps-pressed k p o Tab t = quietly (goes k NextField)
-keeps-pressed k p o Send t = keeps-transmitted k Unprotected
-keeps-pressed k p o Delete t = keeps-shift k Deletion
-keeps-pressed k p o (Function f) t = tells k _ (function-message f)
-keeps-pressed {m} {n} k p o (ToLine code) t =
+keeps-pressed k (Typed c) p = changes (goes k NextOpen) _ p
+keeps-pressed k Back p = quietly (goes k PreviousOpen)
+keeps-pressed k Tab p = quietly (goes k NextField)
+keeps-pressed k Send p = keeps-transmitted k Unprotected
+keeps-pressed k Delete p = keeps-shift k Deletion
+keeps-pressed k (Function f) p = tells k _ (function-message f)
+keeps-pressed k Meaningless p = quietly k
+
+-- one that the edit line takes
+keeps-typed : {m n : ℕ} {v : View} → SoundView m n v → (p : Pad) → SoundPad p → v .frame .x3 ≡ true → (code : ℕ) → Keeps m n (typedTo v p code)
+unfolding typedTo
+keeps-typed {m} {n} k p o on code =
     let text = keeps-text (echoedAt p code) k in
     record {
       view = text .view;
       changes = text .changes;
-      reply = fits-within m n _ 258 (sent-most p o code) (omega (arith, k .x3 (t .0)));
+      reply = fits-within m n _ 258 (sent-most o code) (omega (arith, k .x3 on));
       executed = omega arith;
     }
-keeps-pressed k p o Meaningless t = quietly k
 
 -- whatever the key
-pub keeps-key : {m n : ℕ} {v : View} → SoundView m n v → (p : Pad) → padOk p ≡ true → (code : ℕ) → Keeps m n (pressed v p (keyOf (v .frame) code))
-keeps-key {v = v} k p o code = keeps-pressed k p o (keyOf (v .frame) code) (typable (v .frame) code)
+pub keeps-key : {m n : ℕ} (s : State) → SoundView m n (viewOf s) → SoundPad (s .session .pad) → (code : ℕ) → Keeps m n (pressEffect s code)
+keeps-key {m} {n} s k o code =
+    let f = s .session .frame in
+    either (Keeps m n) (takesKey f code)
+    (λ e. keeps-typed k (s .session .pad) o (and-left (f .x3) _ (and-left (lineTakesKeys f) _ e)) code)
+    (λ e. keeps-pressed k (keyOf code) (typable code))

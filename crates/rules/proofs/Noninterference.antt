@@ -7,7 +7,7 @@ use native.Mathlib.Omega.{arith}
 use lib.Dec.{leb}
 use lib.ListN.{length, getD, take}
 use Rattle.screen.specs.Attributes.{protectedAt}
-use Rattle.words.proofs.Laws.{true-or-false, and-left, and-right, both, getD-within}
+use Rattle.words.proofs.Laws.{either, true-or-false, and-left, and-right, both, getD-within}
 use Rattle.rules.specs.declared.Reader.{Reader}
 use Rattle.rules.specs.declared.Pad.{Pad}
 use Rattle.rules.specs.declared.Refusal.{Refusal}
@@ -17,14 +17,15 @@ use Rattle.rules.specs.Refusal.{isTaken, sizeTests, stateTests}
 use Rattle.rules.specs.Effect.{Effect, Executed, changedAll}
 use Rattle.rules.specs.Command.{reachesPast}
 use Rattle.rules.specs.Cursor.{cursorGuarded}
+use Rattle.rules.specs.Pad.{takesKey}
 use Rattle.rules.specs.Key.{keyOf, needsOf, given, keyTests}
-use Rattle.rules.specs.Operation.{Ran, Outcome, hostByte, applied, running, answering, unless, takenOf, hostBytes, keyRefusal, oneKey}
+use Rattle.rules.specs.Operation.{Ran, Outcome, hostByte, applied, running, answering, unless, takenOf, hostBytes, pressEffect, keyRefusal, oneKey}
 use Rattle.rules.specs.Call.{Call, host, key, called, left, answered, answersOf, stateAfter, executedBy, executedOf}
 use Rattle.rules.specs.Noninterference.{noneReaches, Kept, Noninterference}
 use Rattle.rules.proofs.Characters.{printable-at}
 use Rattle.rules.proofs.Refusals.{all-pass}
 use Rattle.rules.proofs.Safe.{Twins, still-twins, same-reply}
-use Rattle.rules.proofs.SafeEffects.{SafeEffect, safe-happening, safe-key}
+use Rattle.rules.proofs.SafeEffects.{SafeEffect, safe-happening, safe-key, safe-typed}
 
 none-append : (xs ys : List Executed) → noneReaches (xs ++ ys) ≡ true → (noneReaches xs ≡ true) × (noneReaches ys ≡ true)
 unfolding noneReaches
@@ -50,11 +51,18 @@ same-printable (x ∷ xs) [] l h = absurd (omega arith)
 same-printable (x ∷ xs) (y ∷ ys) l h =
     ap₂ _&&_ (h 0 (omega arith)) (same-printable xs ys (omega arith) (λ i k. h (suc i) (omega arith)))
 
--- a key that is taken has passed the test on the guard
-not-guarded : (s : State) (reply : List ℕ) (k : ℕ) → isTaken (keyRefusal s reply k) ≡ true
-    → given (needsOf (keyOf (s .session .frame) k) .unguarded) (not (cursorGuarded (viewOf s))) ≡ true
+-- a key that is taken, and that the edit line does not take, has passed the test on the guard
+not-guarded : (s : State) (reply : List ℕ) (k : ℕ) → takesKey (s .session .frame) k ≡ false → isTaken (keyRefusal s reply k) ≡ true
+    → given (needsOf (keyOf k) .unguarded) (not (cursorGuarded (viewOf s))) ≡ true
 unfolding sizeTests stateTests keyTests
-not-guarded s reply k e = let passed = all-pass _ refl e in search
+not-guarded s reply k off e = let passed = all-pass _ refl (rw off at e) in search
+
+-- so what a key does is safe
+safe-press : (s : State) (reply : List ℕ) (k : ℕ) → s .session .frame .suppressed ≡ false → isTaken (keyRefusal s reply k) ≡ true
+    → SafeEffect (s .screen .attrs) (pressEffect s k)
+safe-press s reply k protecting e =
+    either (SafeEffect (s .screen .attrs)) (takesKey (s .session .frame) k) (λ t. safe-typed (viewOf s) protecting (s .session .pad) k)
+    (λ off. safe-key (viewOf s) protecting (keyOf k) (not-guarded s reply k off e))
 
 -- what host bytes do with so much reply room
 abbrev ran : State → ℕ → List ℕ → Ran
@@ -143,7 +151,7 @@ module _ (attrs c₀ d₀ : List ℕ) where
     called-twins (key k reply) (twins s now c d a p w) x =
         let start = twins s now c d a p w in
         let e = same-tests reply start in
-        rw (e .0, e .1) (unless-twins _ reply start (λ r. applied-twins start (safe-key _ p (s .pad) (keyOf (s .frame) k) (not-guarded _ reply k r))))
+        rw (e .0, e .1) (unless-twins _ reply start (λ r. applied-twins start (safe-press _ reply k p r)))
 
     -- ---- a list of calls
 

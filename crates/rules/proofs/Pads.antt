@@ -3,6 +3,7 @@ use mathlib.Core.Path.{_≡_, refl, _∙_}
 use mathlib.Core.Bool.{Bool, true, false, _&&_}
 use mathlib.Core.List.{List, []}
 use Prim.Native.Nat.{ℕ, _≤_, _<_}
+use borrow.Author.Tests.{ltb-true}
 use lib.ListN.{length}
 use Rattle.words.specs.Words.{if_then_else_}
 use Rattle.words.proofs.Laws.{either, and-left, and-right, both}
@@ -21,11 +22,9 @@ use Rattle.pad.proofs.MessageLaws.{idle-admissible, begun-admissible, byte-admi
 use Rattle.pad.proofs.KeyLaws.{key-line-ok, empty-ok, out-most}
 use Rattle.rules.specs.declared.Frame.{Frame}
 use Rattle.rules.specs.declared.Pad.{Pad}
-use Rattle.rules.specs.declared.Key.{Key}
-use Rattle.rules.specs.declared.Key.the-variants.{Typed, Back, Tab, Send, Delete, Function, ToLine, Meaningless}
-use Rattle.rules.specs.Session.{freshPad, padWith, padOk}
-use Rattle.rules.specs.Pad.{isX3, counts, empties, padAfter, padTyped, sentAt}
-use Rattle.rules.specs.Key.{padPressed}
+use Rattle.rules.specs.Session.{State, freshPad, padOk, lineTakesKeys}
+use Rattle.rules.specs.Pad.{isX3, counts, empties, padAfter, takesKey, padTyped, sentAt}
+use Rattle.rules.specs.Operation.{padPressed}
 -- the sentences of the documents are checked first, so that a wrong rule is refused there
 use Rattle.rules.proofs.Causes.{nothing-else}
 
@@ -81,19 +80,16 @@ module _ {p : Pad} (k : SoundPad p) where
   pad-told f EndBare = record { values = k .values; copy = idle-admissible; line = k .line }
   pad-told f Lost = record { values = k .values; copy = idle-admissible; line = k .line }
 
-  -- a key; the edit line takes those below 128
-  pub pad-pressed : (key : Key) → ((code : ℕ) → key ≡ ToLine code → code < 128) → SoundPad (padPressed p key)
-  unfolding padPressed padTyped
-  pad-pressed (Typed c) t = k
-  pad-pressed Back t = k
-  pad-pressed Tab t = k
-  pad-pressed Send t = k
-  pad-pressed Delete t = k
-  pad-pressed (Function n) t = k
-  pad-pressed (ToLine code) t =
-      record { values = k .values; copy = k .copy; line = key-line-ok (p .values) (p .line) code (k .line) (t code refl) }
-  pad-pressed Meaningless t = k
+  -- a key that the edit line takes is below 128
+  pub pad-typed : (code : ℕ) → code < 128 → SoundPad (padTyped p code)
+  unfolding padTyped
+  pad-typed code h = record { values = k .values; copy = k .copy; line = key-line-ok (p .values) (p .line) code (k .line) h }
 
--- at most 258 bytes go out at a key
-pub sent-most : (p : Pad) → padOk p ≡ true → (code : ℕ) → length (sentAt p code) ≤ 258
-sent-most p o code = out-most (p .values) (textOf (p .line)) code (ok-length (p .line) (pad-parts p o .line))
+  -- at most 258 bytes go out at it
+  pub sent-most : (code : ℕ) → length (sentAt p code) ≤ 258
+  sent-most code = out-most (p .values) (textOf (p .line)) code (ok-length (p .line) (k .line))
+
+pub pad-pressed : (s : State) → SoundPad (s .session .pad) → (code : ℕ) → SoundPad (padPressed s code)
+pad-pressed s k code =
+    let f = s .session .frame in
+    either SoundPad (takesKey f code) (λ e. pad-typed k code (ltb-true code 128 (and-right (lineTakesKeys f) _ e))) (λ e. k)

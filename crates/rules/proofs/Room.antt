@@ -17,7 +17,6 @@ use Rattle.rules.specs.Call.{Call, host, key, called}
 use Rattle.rules.specs.cases.Computing.{computing}
 use Rattle.rules.specs.cases.Vocabulary.{starting}
 use Rattle.rules.proofs.Calls.{replyOf, takenBy, ranBy, called-cases}
-use Rattle.rules.proofs.Pads.{pad-whole}
 use Rattle.rules.proofs.Effects.{keeps-happening, keeps-key}
 use Rattle.rules.proofs.Sound.{Sound, sound-byte, Accepted, sound-of}
 
@@ -34,7 +33,7 @@ module _ {m n : ℕ} {s : State} (k : Sound m n s) where
 
   -- of a key
   pub room-key : (code : ℕ) → length ((keyRan s code) .replies) ≤ replyRoom (s .session .frame)
-  room-key code = omega (arith, room-is, keeps-key (k .view) (s .session .pad) (pad-whole (k .pad)) code .reply (s .screen .chars) (k .chars .long))
+  room-key code = omega (arith, room-is, keeps-key s (k .view) (k .pad) code .reply (s .screen .chars) (k .chars .long))
 
 -- All of it is used: two cells, each an unprotected field, and subcommand 21.
 pub room-reached :

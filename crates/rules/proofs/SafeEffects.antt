@@ -25,14 +25,14 @@ use Rattle.rules.specs.declared.Area.the-variants.{Unprotected}
 use Rattle.rules.specs.declared.Fault.{Fault}
 use Rattle.rules.specs.declared.Fault.the-variants.{NoFault, UnknownCode, OffScreen, TooManyParameters, TooFewParameters, BadValue, BadMap}
 use Rattle.rules.specs.declared.Key.{Key}
-use Rattle.rules.specs.declared.Key.the-variants.{Typed, Back, Tab, Send, Delete, Function, ToLine, Meaningless}
+use Rattle.rules.specs.declared.Key.the-variants.{Typed, Back, Tab, Send, Delete, Function, Meaningless}
 use Rattle.rules.specs.Session.{View, cursorCell}
 use Rattle.rules.specs.Number.{detOption}
 use Rattle.rules.specs.Command.{Row, rows, Listed, listed, unlisted, reaches, reachesPast}
 use Rattle.rules.specs.Effect.{Effect, Part}
 use Rattle.rules.specs.Cursor.{cursorGuarded}
 use Rattle.rules.specs.Telnet.{turned, switchedOn, switchedOff, negotiated, hostCharacter, hostCharacters, hostData, hostText}
-use Rattle.rules.specs.Pad.{response, echoedAt, passes}
+use Rattle.rules.specs.Pad.{response, echoedAt, typedTo, passes}
 use Rattle.rules.specs.Subcommand.{fieldTexts, withoutFirst, transmitted, erasure, suppressing, obeyed, judged, looked, subcommand}
 use Rattle.rules.specs.Key.{needsOf, given, pressed}
 use Rattle.rules.specs.Operation.{happening}
@@ -261,16 +261,20 @@ module _ (v : View) (protecting : v .frame .suppressed ≡ false) where
 
   -- ---- keys
 
-  pub safe-key : (p : Pad) (k : Key) → given (needsOf k .unguarded) (not (cursorGuarded v)) ≡ true → SafeEffect (v .attrs) (pressed v p k)
+  pub safe-key : (k : Key) → given (needsOf k .unguarded) (not (cursorGuarded v)) ≡ true → SafeEffect (v .attrs) (pressed v k)
   unfolding pressed needsOf
-  safe-key p (Typed c) g = let u = open-cursor v protecting (not-true _ g) in search
-  safe-key p Back g = search
-  safe-key p Tab g = search
-  safe-key p Send g = safe-fields
-  safe-key p Delete g = search (unless-guarded, open-span)
-  safe-key p (Function n) g = search
-  safe-key p (ToLine k) g = let text = safe-text (echoedAt p k) v protecting in search
-  safe-key p Meaningless g = search
+  safe-key (Typed c) g = let u = open-cursor v protecting (not-true _ g) in search
+  safe-key Back g = search
+  safe-key Tab g = search
+  safe-key Send g = safe-fields
+  safe-key Delete g = search (unless-guarded, open-span)
+  safe-key (Function n) g = search
+  safe-key Meaningless g = search
+
+  -- what the edit line echoes is host text
+  pub safe-typed : (p : Pad) (k : ℕ) → SafeEffect (v .attrs) (typedTo v p k)
+  unfolding typedTo
+  safe-typed p k = let text = safe-text (echoedAt p k) v protecting in search
 
 -- ---- host bytes
 

@@ -18,15 +18,14 @@ use Rattle.rules.specs.declared.Refusal.the-variants.{Taken, Size}
 use Rattle.rules.specs.Session.{Screen, State, cells, replyRoom, x3Cells, freshFrame, fresh, state, viewOf, allPrintable, sessionOk}
 use Rattle.rules.specs.Refusal.{isTaken, Test, verdict, sizeTests, stateTests}
 use Rattle.rules.specs.Telnet.{holding, heldAfter}
-use Rattle.rules.specs.Key.{keyOf, keyTests}
-use Rattle.rules.specs.Operation.{Outcome, hostByte, running, unless, hostRefusal, hostBytes, keyRan, oneKey, opened}
+use Rattle.rules.specs.Operation.{Outcome, hostByte, running, unless, hostRefusal, hostBytes, pressTests, keyRan, oneKey, opened}
 use Rattle.rules.specs.Call.{Call, host, key, called, left, stateAfter}
 use Rattle.rules.proofs.Refusals.{asked}
 use Rattle.rules.proofs.Calls.{replyOf, refusalBy, ranBy, called-cases}
 use Rattle.rules.proofs.Characters.{Text}
 use Rattle.rules.proofs.Views.{SoundView}
 use Rattle.rules.proofs.Pads.{SoundPad, pad-parts, pad-whole, fresh-pad, pad-told, pad-pressed}
-use Rattle.rules.proofs.Effects.{keeps-happening, keeps-key, typable}
+use Rattle.rules.proofs.Effects.{keeps-happening, keeps-key}
 
 -- What refusals 1 to 4 ask of a state, its screen being m cells wide and n lines high.
 pub record Sound (m n : ℕ) (s : State) : Type 0 where
@@ -60,14 +59,8 @@ module _ {m n : ℕ} {s : State} (k : Sound m n s) where
   -- a key
   pub sound-key : (code : ℕ) → Sound m n ((keyRan s code) .state)
   sound-key code =
-      let f = s .session .frame in
-      let e = keeps-key (k .view) (s .session .pad) (pad-whole (k .pad)) code in
-      record {
-        view = e .view;
-        held = k .held;
-        pad = pad-pressed (k .pad) (keyOf f code) (λ c q. let t = typable f code in (rw q at t) .1);
-        chars = e .changes _ _ (k .chars);
-      }
+      let e = keeps-key s (k .view) (k .pad) code in
+      record { view = e .view; held = k .held; pad = pad-pressed s (k .pad) code; chars = e .changes _ _ (k .chars) }
 
 -- host bytes
 pub sound-running : {m n : ℕ} {s : State} → Sound m n s → (bs : List ℕ) → Sound m n ((running s bs) .state)
@@ -145,7 +138,7 @@ accepted s reply others e =
 pub sound-of : (s : State) (c : Call) → isTaken (refusalBy s c) ≡ true → Accepted s (replyOf c)
 unfolding stateTests
 sound-of s (host input reply) e = accepted s reply [] e
-sound-of s (key code reply) e = accepted s reply (keyTests (viewOf s) (s .session .pad) (keyOf (s .session .frame) code)) e
+sound-of s (key code reply) e = accepted s reply (pressTests s code) e
 
 -- and host bytes that find these are not refused
 pub passes : {m n : ℕ} {s : State} → Sound m n s → (reply : List ℕ) → replyRoom (s .session .frame) ≤ length reply

@@ -15,12 +15,12 @@ use Rattle.rules.specs.declared.Refusal.the-variants.{Taken}
 use Rattle.rules.specs.declared.Answer.{Answer}
 use Rattle.rules.specs.Session.{Screen, State, View, cells, replyRoom, session, freshFrame, fresh, screen, state, viewOf}
 use Rattle.rules.specs.Number.{detOption}
-use Rattle.rules.specs.Refusal.{isTaken, verdict, sizeTests, stateTests}
+use Rattle.rules.specs.Refusal.{Test, isTaken, verdict, sizeTests, stateTests}
 use Rattle.rules.specs.Effect.{Effect, Executed, changedAll, spelledAll, saying, quiet}
 use Rattle.rules.specs.Telnet.{heldAfter, crAfter, negotiated, hostData}
-use Rattle.rules.specs.Pad.{padAfter, response, passes}
+use Rattle.rules.specs.Pad.{padAfter, response, takesKey, lineTests, padTyped, typedTo, passes}
 use Rattle.rules.specs.Subcommand.{subcommand}
-use Rattle.rules.specs.Key.{keyOf, keyTests, pressed, padPressed}
+use Rattle.rules.specs.Key.{keyOf, keyTests, pressed}
 
 -- ---- what an effect does to a state
 
@@ -123,18 +123,28 @@ hostBytes s reply input =
 
 -- ---- one key
 
+-- the edit line takes it, or it has its meaning
+abbrev pub pressTests : State → ℕ → List Test
+pressTests s k =
+    let f = s .session .frame in
+    if takesKey f k then lineTests (s .session .pad) k else keyTests (viewOf s) (keyOf k)
+
+abbrev pub pressEffect : State → ℕ → Effect
+pressEffect s k =
+    let f = s .session .frame in
+    if takesKey f k then typedTo (viewOf s) (s .session .pad) k else pressed (viewOf s) (keyOf k)
+
+abbrev pub padPressed : State → ℕ → Pad
+padPressed s k = let p = s .session .pad in if takesKey (s .session .frame) k then padTyped p k else p
+
 abbrev pub keyRefusal : State → List ℕ → ℕ → Refusal
 keyRefusal s reply k =
     verdict
-    (sizeTests (s .session .frame) (s .screen)
-    ++ (stateTests (s .session) (s .screen .chars) reply ++ keyTests (viewOf s) (s .session .pad) (keyOf (s .session .frame) k)))
+    (sizeTests (s .session .frame) (s .screen) ++ (stateTests (s .session) (s .screen .chars) reply ++ pressTests s k))
 
 -- the reader stays where it is
 abbrev pub keyRan : State → ℕ → Ran
-keyRan s k =
-    let key = keyOf (s .session .frame) k in
-    let p = s .session .pad in
-    applied s (s .session .reader) (padPressed p key) (pressed (viewOf s) p key)
+keyRan s k = applied s (s .session .reader) (padPressed s k) (pressEffect s k)
 
 unfoldable pub oneKey : State → List ℕ → ℕ → Outcome
 oneKey s reply k = unless (keyRefusal s reply k) s reply (answering 1 (keyRan s k) reply)

@@ -2,7 +2,7 @@
 use mathlib.Core.Bool.{Bool, false, not, _&&_}
 use mathlib.Core.List.{List, [], _∷_}
 use Prim.Native.Nat.{ℕ}
-use lib.Dec.{eqb}
+use lib.Dec.{ltb, eqb}
 use Rattle.words.specs.Words.{if_then_else_}
 use Rattle.telnet.specs.declared.Event.{Event}
 use Rattle.telnet.specs.declared.Event.the-variants.{Nothing, Data, Negotiation, Begin, Sub, End, EndBare, Lost}
@@ -20,8 +20,11 @@ use Rattle.pad.specs.Host.{printsLf, passedOver}
 use Rattle.rules.specs.declared.Frame.{Frame}
 use Rattle.rules.specs.declared.Pad.{Pad}
 use Rattle.rules.specs.Number.{x3Option}
-use Rattle.rules.specs.Session.{padWith, lineTakesKeys}
-use Rattle.rules.specs.Effect.{Part, bytes}
+use Rattle.rules.specs.declared.Refusal.the-variants.{LineFull}
+use Rattle.rules.specs.Session.{View, padWith, lineTakesKeys}
+use Rattle.rules.specs.Refusal.{Test, test}
+use Rattle.rules.specs.Effect.{Effect, Part, bytes}
+use Rattle.rules.specs.Telnet.{hostText}
 
 abbrev pub isX3 : ℕ → Bool
 isX3 option = eqb option x3Option
@@ -68,20 +71,30 @@ response f p option =
 
 -- ---- keys, while the line takes them
 
--- refusal 10: the line takes the key
-abbrev pub lineAdmits : Pad → ℕ → Bool
-lineAdmits p k = not (overfills (p .values) (textOf (p .line)) k)
+-- Option 30 on and DET off: the line takes 0 to 127, whatever they mean otherwise. The other keys keep their meaning.
+abbrev pub takesKey : Frame → ℕ → Bool
+takesKey f k = lineTakesKeys f && ltb k 128
 
--- the PAD after a key
+-- refusal 10; no other arises for them
+unfoldable pub lineTests : Pad → ℕ → List Test
+lineTests p k = test (not (overfills (p .values) (textOf (p .line)) k)) LineFull ∷ []
+
+-- the PAD after such a key
 unfoldable pub padTyped : Pad → ℕ → Pad
 padTyped p k = withLine p (lineOf (lineAfter (p .values) (textOf (p .line)) k))
 
--- what goes out, and what is echoed, as host text
+-- what goes out, and what is echoed
 abbrev pub sentAt : Pad → ℕ → List ℕ
 sentAt p k = outOf (p .values) (textOf (p .line)) k
 
 abbrev pub echoedAt : Pad → ℕ → List ℕ
 echoedAt p k = echoOf (p .values) (textOf (p .line)) k
+
+-- echo is written as host text
+unfoldable pub typedTo : View → Pad → ℕ → Effect
+typedTo v p k =
+    let echo = hostText v (echoedAt p k) in
+    record { view = echo .view; changes = echo .changes; reply = bytes (sentAt p k) ∷ []; executed = [] }
 
 -- ---- host data
 

@@ -154,7 +154,5 @@ pub enum Key {
     Send,
     Delete,
     Function(u8),
-    // taken by the edit line
-    ToLine(u8),
     Meaningless,
 }

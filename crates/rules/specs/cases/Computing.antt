@@ -38,9 +38,9 @@ use Rattle.rules.specs.Telnet.{
   hostData,
   hostText,
 }
-use Rattle.rules.specs.Pad.{empties, padAfter, response, padTyped, passes}
+use Rattle.rules.specs.Pad.{empties, padAfter, response, lineTests, padTyped, typedTo, passes}
 use Rattle.rules.specs.Subcommand.{fieldTexts, transmitted, erasure, suppressing, obeyed, judged, looked, subcommand}
-use Rattle.rules.specs.Key.{meaningOf, keyOf, needsOf, keyTests, pressed, padPressed}
+use Rattle.rules.specs.Key.{keyOf, needsOf, keyTests, pressed}
 use Rattle.rules.specs.Operation.{happening, hostByte, running, unless, takenOf, hostBytes, oneKey, opened}
 use Rattle.rules.specs.Call.{called, answersOf, stateAfter, executedBy, executedOf}
 
@@ -49,7 +49,7 @@ unfolding bit parameters lines messages responses keys echoes printsLf passedOve
     nextOpen deleted inserted shifted onPart erased formatted takes allPrintable padOk sessionOk ownMap verdict sizeTests stateTests rows
     rowIn meaning reaches valueFault faultOf changed changedAll spelled spelledAll nextCell homeCell backTabCell firstFieldCell
     nextFieldCell previousOpenCell destination holding heldAfter crAfter optionOf isOn accepts turned switchedOn switchedOff negotiated hostCharacter hostCharacters
-    hostData hostText empties padAfter response padTyped passes fieldTexts
-    transmitted erasure suppressing obeyed judged looked subcommand meaningOf keyOf needsOf keyTests pressed padPressed happening hostByte running unless
+    hostData hostText empties padAfter response lineTests padTyped typedTo passes fieldTexts
+    transmitted erasure suppressing obeyed judged looked subcommand keyOf needsOf keyTests pressed happening hostByte running unless
     takenOf hostBytes oneKey opened called answersOf stateAfter executedBy executedOf
 computing = 0

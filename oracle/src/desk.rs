@@ -1,17 +1,19 @@
 //! One call at work: bytes heard, options negotiated, data written.
 
+use crate::pad::{Pad, PAD};
 use crate::reply::{Reply, DET};
 use crate::screen::Screen;
 use crate::session::Session;
-use crate::telnet::{Heard, Held, Reader, Verb};
+use crate::telnet::{Heard, Phase, Reader, Sub, Verb};
 use crate::terminal::Lent;
 use crate::variant::Variant;
-use crate::watch::{Event, Watch};
+use crate::watch::{Event, Sight, Watch};
 
 pub struct Desk<'a> {
     pub screen: Screen<'a>,
     pub reply: Reply<'a>,
     pub det: bool,
+    pub pad: Pad,
     reader: Reader,
     pub variant: Variant,
     watch: &'a mut dyn Watch,
@@ -32,11 +34,16 @@ impl<'a> Desk<'a> {
             attrs: lent.attrs,
             variant,
         };
+        let mut pad = session.pad.clone();
+        if variant == Variant::CrForgottenByCalls {
+            pad.after_cr = false;
+        }
         Desk {
             screen,
             reply: Reply::new(lent.reply, variant),
             det: session.det,
-            reader: session.reader,
+            pad,
+            reader: session.reader.clone(),
             variant,
             watch,
         }
@@ -49,6 +56,7 @@ impl<'a> Desk<'a> {
             cursor: self.screen.cursor,
             det: self.det,
             suppressed: self.screen.suppressed,
+            pad: self.pad,
             reader: self.reader,
         };
         (session, self.reply.written())
@@ -59,16 +67,32 @@ impl<'a> Desk<'a> {
     }
 
     pub fn saw(&mut self, event: Event) {
-        self.watch.saw(event, &self.screen, self.det);
+        let sight = Sight {
+            screen: &self.screen,
+            det: self.det,
+            pad: &self.pad,
+        };
+        self.watch.saw(event, sight);
     }
 
     pub fn take(&mut self, byte: u8) {
         match self.reader.step(byte, self.variant) {
-            Heard::Nothing => {}
+            Heard::Nothing => self.half_read(),
             Heard::Data(byte) => self.data(byte),
             Heard::Negotiation(verb, option) => self.negotiate(verb, option),
-            Heard::Subnegotiation(option, held) => self.subnegotiation(option, held),
-            Heard::ThrownAway => self.saw(Event::ThrownAway),
+            Heard::Subnegotiation(sub) => self.subnegotiation(&sub),
+            Heard::ThrownAway(sub) => self.saw(Event::ThrownAway(&sub)),
+        }
+    }
+
+    /// Nothing is done before its end, but for wrong variants.
+    fn half_read(&mut self) {
+        if self.varies(Variant::PairsAsRead) && self.reader.phase == Phase::Sub(PAD) {
+            let message = self.reader.message.clone();
+            self.pad_as_read(&message);
+        }
+        if self.varies(Variant::CrForgottenByCommands) {
+            self.pad.after_cr = false;
         }
     }
 
@@ -76,8 +100,10 @@ impl<'a> Desk<'a> {
         self.saw(Event::Negotiation(verb, option));
         match verb {
             Verb::Do if option == DET => self.turn_on(),
+            Verb::Do if option == PAD => self.pad_on(),
             Verb::Do => self.reply.negotiation(Verb::Wont, option),
             Verb::Dont if option == DET => self.turn_off(),
+            Verb::Dont if option == PAD => self.pad_off(),
             Verb::Will if option == DET && self.varies(Variant::Will20Accepted) => {
                 self.reply.negotiation(Verb::Do, option)
             }
@@ -93,6 +119,9 @@ impl<'a> Desk<'a> {
         if !self.det || self.varies(Variant::Do20Again) {
             self.reply.negotiation(Verb::Will, DET);
         }
+        if self.varies(Variant::DetEmptiesLine) {
+            self.pad.line.clear();
+        }
         self.det = true;
     }
 
@@ -107,25 +136,31 @@ impl<'a> Desk<'a> {
         self.det = false;
     }
 
-    fn subnegotiation(&mut self, option: Option<u8>, held: Held) {
-        self.saw(Event::Subnegotiation(option, held.count));
-        let ours = match option {
+    fn subnegotiation(&mut self, sub: &Sub) {
+        self.saw(Event::Subnegotiation(sub));
+        if sub.option == Some(PAD) && self.hears_pad() {
+            self.pad_message(sub);
+        }
+        let ours = match sub.option {
             Some(option) => option == DET || self.varies(Variant::OtherOptionObeyed),
             None => self.varies(Variant::NoOptionObeyed),
         };
         if ours && (self.det || self.varies(Variant::DetOffObeyed)) {
-            self.obey(held.bytes());
+            self.obey(sub.held.bytes());
+        }
+    }
+
+    /// Whether option 30's messages are obeyed: DET has no say in it.
+    fn hears_pad(&self) -> bool {
+        match self.variant {
+            Variant::PadOffObeyed => true,
+            Variant::PadDeafWithDet => self.pad.on && !self.det,
+            _ => self.pad.on,
         }
     }
 
     fn data(&mut self, byte: u8) {
         self.saw(Event::Data(byte));
-        match byte {
-            32..=126 => self.screen.write(byte),
-            13 => self.screen.carriage_return(),
-            10 => self.screen.line_feed(),
-            8 => self.screen.backspace(),
-            _ => {}
-        }
+        self.host_text(byte);
     }
 }

@@ -16,6 +16,8 @@ pub enum Key {
     Delete,
     /// With the number that FN sends.
     Function(u8),
+    /// Taken by the edit line.
+    Line(u8),
 }
 
 impl Key {
@@ -73,6 +75,7 @@ impl Desk<'_> {
             Key::Send => self.transmit_unprotected(),
             Key::Delete => self.screen.delete(),
             Key::Function(number) => self.reply.subcommand(&[code::FN, number]),
+            Key::Line(byte) => self.type_into_line(byte),
         }
     }
 

@@ -1,5 +1,6 @@
-//! The terminal end of a Telnet connection with option 20 (DET), written to
-//! be compared with another one. The modules stand in the scope's order.
+//! The terminal end of a Telnet connection with options 20 (DET) and 30
+//! (X.3 PAD), written to be compared with another one. The modules stand in
+//! the scope's order.
 
 pub mod size;
 
@@ -21,6 +22,8 @@ pub mod transmit;
 
 pub mod class;
 pub mod key;
+
+pub mod pad;
 
 pub mod replay;
 pub mod script;

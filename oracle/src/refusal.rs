@@ -13,6 +13,7 @@ pub enum Refusal {
     Class = 7,
     DetOff = 8,
     NoMeaning = 9,
+    LineFull = 10,
 }
 
 impl Refusal {
@@ -21,7 +22,7 @@ impl Refusal {
     }
 }
 
-const ORDER: [Refusal; 9] = [
+const ORDER: [Refusal; 10] = [
     Refusal::Size,
     Refusal::Buffers,
     Refusal::Character,
@@ -31,6 +32,7 @@ const ORDER: [Refusal; 9] = [
     Refusal::DetOff,
     Refusal::Guarded,
     Refusal::Class,
+    Refusal::LineFull,
 ];
 
 /// The first refusal that is given; each is asked for only when none
@@ -39,7 +41,7 @@ pub fn first(variant: Variant, given: impl Fn(Refusal) -> bool) -> Option<Refusa
     order(variant).into_iter().find(|&refusal| given(refusal))
 }
 
-fn order(variant: Variant) -> [Refusal; 9] {
+fn order(variant: Variant) -> [Refusal; 10] {
     let mut order = ORDER;
     match variant {
         Variant::Refuse2Before1 => order.swap(0, 1),
@@ -48,6 +50,7 @@ fn order(variant: Variant) -> [Refusal; 9] {
         Variant::Refuse5Before4 => order.swap(3, 4),
         Variant::Refuse9Before5 => order.swap(4, 5),
         Variant::Refuse5Last => order[4..].rotate_left(1),
+        Variant::Refuse10Before5 => order[4..].rotate_right(1),
         _ => {}
     }
     order

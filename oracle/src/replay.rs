@@ -51,6 +51,7 @@ impl Replay {
             Line::Held(count) => session.reader.held.count = *count,
             Line::Det(on) => session.det = *on,
             Line::Suppress(on) => session.suppressed = *on,
+            Line::Pad(on) => session.pad.on = *on,
             Line::State => {}
         }
         None
@@ -101,10 +102,14 @@ impl Replay {
         push_hex(text, &self.chars);
         text.push(' ');
         push_hex(text, &self.attrs);
+        push(text, format_args!(" {} ", u8::from(session.pad.on)));
+        push_hex(text, session.pad.line.bytes());
+        text.push(' ');
+        push_hex(text, session.pad.parameters.values());
     }
 
     fn push_state(&self, text: &mut String) {
-        let reader = self.terminal.session.reader;
+        let reader = &self.terminal.session.reader;
         text.push_str(phase_name(reader.phase));
         match reader.phase {
             Phase::Sub(option) | Phase::SubIac(option) => push(text, format_args!(" {option}")),

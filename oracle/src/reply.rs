@@ -3,7 +3,7 @@
 use crate::telnet::{Verb, IAC, SB, SE};
 use crate::variant::Variant;
 
-/// The option's number in every subnegotiation and answer.
+/// The option's number.
 pub const DET: u8 = 20;
 
 pub struct Reply<'a> {
@@ -45,12 +45,16 @@ impl<'a> Reply<'a> {
         }
     }
 
-    /// IAC SB 20, the bytes with 255 doubled, IAC SE.
     pub fn subcommand(&mut self, bytes: &[u8]) {
-        self.data(&[IAC, SB, DET]);
+        self.message(DET, bytes, Variant::Error255Single);
+    }
+
+    /// IAC SB, the option, the bytes with 255 doubled, IAC SE.
+    pub fn message(&mut self, option: u8, bytes: &[u8], single: Variant) {
+        self.data(&[IAC, SB, option]);
         for &byte in bytes {
             self.data(&[byte]);
-            if byte == IAC && self.variant != Variant::Error255Single {
+            if byte == IAC && self.variant != single {
                 self.data(&[IAC]);
             }
         }

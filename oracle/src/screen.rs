@@ -122,6 +122,17 @@ impl Screen<'_> {
         self.at()..line_end.min(self.field_end(self.at()))
     }
 
+    /// A data byte: a character, one of the three controls, or nothing.
+    pub fn text(&mut self, byte: u8) {
+        match byte {
+            32..=126 => self.write(byte),
+            13 => self.carriage_return(),
+            10 => self.line_feed(),
+            8 => self.backspace(),
+            _ => {}
+        }
+    }
+
     /// A host character. Its class is not tested.
     pub fn write(&mut self, byte: u8) {
         let cell = self.at();

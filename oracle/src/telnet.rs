@@ -74,21 +74,32 @@ impl Held {
     }
 }
 
+/// A subnegotiation as far as it was read.
+#[derive(Clone, Debug, PartialEq, Eq)]
+pub struct Sub {
+    /// Missing if no byte came.
+    pub option: Option<u8>,
+    pub held: Held,
+    /// All bytes after the option byte, however many.
+    pub message: Vec<u8>,
+}
+
 /// What one byte completed.
-#[derive(Clone, Copy, Debug, PartialEq, Eq)]
+#[derive(Clone, Debug, PartialEq, Eq)]
 pub enum Heard {
     Nothing,
     Data(u8),
     Negotiation(Verb, u8),
-    /// Ended by IAC SE; the option is missing if no byte came before it.
-    Subnegotiation(Option<u8>, Held),
-    ThrownAway,
+    /// Ended by IAC SE.
+    Subnegotiation(Sub),
+    ThrownAway(Sub),
 }
 
-#[derive(Clone, Copy, Debug, Default, PartialEq, Eq)]
+#[derive(Clone, Debug, Default, PartialEq, Eq)]
 pub struct Reader {
     pub phase: Phase,
     pub held: Held,
+    pub message: Vec<u8>,
 }
 
 impl Reader {
@@ -146,22 +157,31 @@ impl Reader {
 
     fn hold(&mut self, option: u8, byte: u8, variant: Variant) -> Heard {
         if variant == Variant::SubIacIacTwice && byte == IAC {
-            self.held.hold(byte, variant);
+            self.hold_once(byte, variant);
         }
-        self.held.hold(byte, variant);
+        self.hold_once(byte, variant);
         self.turn(Phase::Sub(option))
+    }
+
+    fn hold_once(&mut self, byte: u8, variant: Variant) {
+        self.held.hold(byte, variant);
+        self.message.push(byte);
     }
 
     /// IAC SE ends a subnegotiation; after IAC any other command throws it
     /// away and is then obeyed as outside.
     fn leave(&mut self, option: Option<u8>, byte: u8, variant: Variant) -> Heard {
-        let held = self.held;
+        let sub = Sub {
+            option,
+            held: self.held,
+            message: std::mem::take(&mut self.message),
+        };
         if byte == SE {
             if variant != Variant::HeldKeptAfterEnd {
                 self.held = Held::default();
             }
             self.phase = Phase::Data;
-            return Heard::Subnegotiation(option, held);
+            return Heard::Subnegotiation(sub);
         }
         if variant != Variant::HeldKeptAfterThrow {
             self.held = Held::default();
@@ -171,6 +191,6 @@ impl Reader {
             Variant::SbInsideNotAnew if byte == SB => self.phase = Phase::Data,
             _ => _ = self.command(byte),
         }
-        Heard::ThrownAway
+        Heard::ThrownAway(sub)
     }
 }

@@ -81,7 +81,7 @@ impl Terminal {
     }
 
     pub fn key(&mut self, lent: Lent, key: u8, watch: &mut dyn Watch) -> Outcome {
-        let meaning = Key::meaning(key, self.variant);
+        let meaning = self.meaning(key);
         let refusal = refusal::first(self.variant, |refusal| match meaning {
             None if refusal == Refusal::NoMeaning => true,
             Some(key) if self.refuses(&lent, key, refusal) => true,
@@ -93,6 +93,18 @@ impl Terminal {
         let mut desk = Desk::new(&self.session, lent, self.variant, watch);
         desk.press(key, meaning);
         self.finish(desk.close(), 1)
+    }
+
+    /// A key that the edit line takes has no other meaning.
+    fn meaning(&self, key: u8) -> Option<Key> {
+        let other = Key::meaning(key, self.variant);
+        if !self.session.line_takes(key, self.variant) {
+            return other;
+        }
+        match self.variant {
+            Variant::LineKeys9 => other.and(Some(Key::Line(key))),
+            _ => Some(Key::Line(key)),
+        }
     }
 
     fn finish(&mut self, (session, written): (Session, usize), taken: usize) -> Outcome {
@@ -112,7 +124,7 @@ impl Terminal {
             Refusal::Size => !size.in_range(),
             Refusal::Buffers => lent.chars.len() != cells || lent.attrs.len() != cells,
             Refusal::Character => !lent.chars.iter().all(|c| (32..=126).contains(c)),
-            Refusal::Session => !self.session.sound(),
+            Refusal::Session => !self.session.sound(self.variant),
             Refusal::Room => lent.reply.len() < self.room_to_call(),
             _ => false,
         }
@@ -121,6 +133,12 @@ impl Terminal {
     /// The refusals of a key that has a meaning.
     fn refuses(&self, lent: &Lent, key: Key, refusal: Refusal) -> bool {
         let session = &self.session;
+        let key = match (key, self.variant) {
+            (Key::Line(byte), Variant::LineKeys678) if refusal != Refusal::LineFull => {
+                Key::meaning(byte, self.variant).unwrap_or(key)
+            }
+            _ => key,
+        };
         match refusal {
             Refusal::DetOff => !session.det && key.needs_det(self.variant),
             Refusal::Guarded => key.changes_cell() && self.on_guarded(lent),
@@ -128,6 +146,10 @@ impl Terminal {
                 let attr = lent.attrs[session.size.cell(session.cursor)];
                 !key.fits(attr, session.suppressed, self.variant)
             }
+            Refusal::LineFull => match key {
+                Key::Line(byte) => session.pad.refuses(byte, self.variant),
+                _ => false,
+            },
             _ => false,
         }
     }

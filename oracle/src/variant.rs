@@ -168,6 +168,111 @@ variants! {
     ClassLetterSpace "class-letter-space" "an alphabetic cell refuses the space";
     ClassNumberSpace "class-number-space" "a numeric cell refuses the space";
     ClassWhileSuppressed "class-while-suppressed" "class is tested while suppressed";
+
+    // Option 30 on and off.
+    Pad36Cells "pad-36-cells" "option 30 is accepted from 36 cells up";
+    Pad38Cells "pad-38-cells" "option 30 is accepted from 38 cells up";
+    PadSmallTaken "pad-small-taken" "a session with 30 on below 37 cells is not refused";
+    Do30Again "do-30-again" "DO 30 is answered while on too";
+    Dont30Again "dont-30-again" "DONT 30 is answered while off too";
+    Do30NeedsDetOff "do-30-needs-det-off" "DO 30 is declined while DET is on";
+    Do30StartsAfresh "do-30-starts-afresh" "DO 30 sets all parameters to their starts";
+    Dont30StartsAfresh "dont-30-starts-afresh" "DONT 30 sets all parameters to their starts";
+    Dont30OffEmpties "dont-30-off-empties" "DONT 30 empties the line while off too";
+    Dont30KeepsLine "dont-30-keeps-line" "DONT 30 leaves the line";
+    Dont30SendsLine "dont-30-sends-line" "DONT 30 sends the line";
+    Dont30EndsSuppression "dont-30-ends-suppression" "DONT 30 ends suppression";
+    DetEmptiesLine "det-empties-line" "DO 20 empties the line";
+    PadWithDet "pad-with-det" "the line takes the keys while DET is on too";
+    PadOffObeyed "pad-off-obeyed" "messages of 30 are obeyed while it is off";
+    PadDeafWithDet "pad-deaf-with-det" "messages of 30 are ignored while DET is on";
+
+    // Option 30's messages.
+    PairsAsRead "pairs-as-read" "pairs are applied as they are read";
+    OddMessageObeyed "odd-message-obeyed" "the pairs before a parameter without a value are applied";
+    MessageOfSix "message-of-six" "only the six held bytes of a message count";
+    ResponseSetIgnored "response-set-ignored" "RESPONSE-SET does nothing";
+    IsObeyed "is-obeyed" "IS from the host sets parameters";
+    UnknownCodeSets "unknown-code-sets" "an unknown code is taken for SET";
+    SendStrict "send-strict" "SEND with pairs after it is not answered";
+    SendAnsweredIs "send-answered-is" "SEND is answered with IS";
+    FirstPairCounts "first-pair-counts" "of two pairs for a parameter the first counts";
+    PairsBySetBefore "pairs-by-set-before" "129 to 132 go by the extension set before the message";
+    BadValueEnds "bad-value-ends" "a bad value ends its message";
+    BadValueIsZero "bad-value-is-zero" "a bad value sets 0";
+    LackedEnds "lacked-ends" "a parameter that we lack ends its message";
+    SetAnySet "set-any-set" "129 to 132 are set whatever the extension set";
+    SetForgetsExtensions "set-forgets-extensions" "another extension set puts 129 to 132 to their starts";
+    Told255Single "told-255-single" "255 stays single in RESPONSE-IS";
+    TellsAllExtensions "tells-all-extensions" "RESPONSE-IS always names 129 to 132";
+    TellsNoExtensions "tells-no-extensions" "RESPONSE-IS never names 129 to 132";
+    TellsBareSet "tells-bare-set" "RESPONSE-IS leaves 128 out";
+    Parameter1Controls "parameter-1-controls" "parameter 1 takes 2 to 31";
+    Parameter3Bit128 "parameter-3-bit-128" "parameter 3 takes bit 128";
+    Parameter4Any "parameter-4-any" "parameter 4 takes any value";
+    Parameter6Any "parameter-6-any" "parameter 6 takes any value";
+    Parameter19Any "parameter-19-any" "parameter 19 takes every value to 126";
+    Parameter128Any "parameter-128-any" "parameter 128 takes any value";
+    Parameter128No255 "parameter-128-no-255" "parameter 128 does not take 255";
+
+    // The edit line.
+    Capacity127 "capacity-127" "the line holds 127 characters";
+    Capacity129 "capacity-129" "the line holds 129 characters";
+    FullLineGoes "full-line-goes" "a line that becomes full is sent";
+    FullRefusesForwarding "full-refuses-forwarding" "a forwarding key is refused while the line is full";
+    FullRefusesEditing "full-refuses-editing" "an edit key is refused while the line is full";
+    Refuse10Before5 "refuse-10-before-5" "refusal 10 is looked for before 5";
+    LineTakesAllKeys "line-takes-all-keys" "the line takes keys above 127 too";
+    LineKeys678 "line-keys-6-7-8" "refusals 6, 7 and 8 arise for keys into the line";
+    LineKeys9 "line-keys-9" "keys without another meaning have none for the line";
+    ForwardingKeyStays "forwarding-key-stays" "a forwarding key begins the next line";
+    SentLineStays "sent-line-stays" "the line is not emptied when it is sent";
+    CrSentAlone "cr-sent-alone" "a CR is sent as one byte";
+    InputByOutputBit "input-by-output-bit" "bit 1 of parameter 13 decides what follows a CR that is sent";
+    Forward1Letters "forward-1-letters" "digits do not forward by bit 1";
+    Forward8NoDel "forward-8-no-del" "DEL does not forward by bit 8";
+    Forward32Bs "forward-32-bs" "BS forwards by bit 32";
+    Forward64All "forward-64-all" "every control character forwards by bit 64";
+    ForwardBeforeEdit "forward-before-edit" "a key that edits and forwards is forwarded";
+    EditsWithout15 "edits-without-15" "edit keys edit while parameter 15 is 0";
+    EditsFromTheLast "edits-from-the-last" "of two parameters that name an edit key the last counts";
+    Key0Edits "key-0-edits" "key 0 is an edit key where a parameter is 0";
+    WordDeleteWithoutSet "word-delete-without-set" "129 names an edit key whatever the extension set";
+    WordKeepsSpaces "word-keeps-spaces" "spaces at the line's end keep words from being deleted";
+    WordIsSpaces "word-is-spaces" "spaces at the line's end are deleted as a word";
+
+    // Echo.
+    EchoWithout2 "echo-without-2" "keys are echoed while parameter 2 is 0";
+    EchoMaskIgnored "echo-mask-ignored" "parameter 20 silences nothing";
+    Mask64Ignored "mask-64-ignored" "bit 64 of parameter 20 silences nothing";
+    MaskSignalsBy64 "mask-signals-by-64" "edit keys are silenced by bit 64 alone";
+    MaskSparesSignals "mask-spares-signals" "parameter 20 does not silence edit keys";
+    MaskTakesEchoedLf "mask-takes-echoed-lf" "bit 2 of parameter 20 silences the LF of an echoed CR";
+    EchoByInputBit "echo-by-input-bit" "bit 2 of parameter 13 adds the LF of an echoed CR";
+    EchoLfSwallowed "echo-lf-swallowed" "LF after CR is swallowed in an echo as in host text";
+    EchoForgetsCr "echo-forgets-cr" "an echo between the host's CR and LF parts them";
+    EchoAsTyped "echo-as-typed" "an echo goes to the next open cell, as typing does";
+    EscapeUnechoed "escape-unechoed" "the character of parameter 1 is not echoed";
+    FlowUnechoed "flow-unechoed" "flow control characters are not echoed while in use";
+    SignalsWithout2 "signals-without-2" "deletions are signalled while parameter 2 is 0";
+    PrintingDeleteQuote "printing-delete-quote" "a character delete on a printer signals a quote";
+    EmptySignalsNothing "empty-signals-nothing" "a character delete in an empty line signals nothing";
+    WordSignalsOnce "word-signals-once" "a word delete signals one character";
+    LineDeleteOnce "line-delete-once" "a line delete on a display erases one character";
+    LineDeleteByCharacter "line-delete-by-character" "a line delete signals each character by the chosen one";
+    LineDeleteNoCrLf "line-delete-no-cr-lf" "a line delete signals XXX alone";
+    DisplayKeyUnechoed "display-key-unechoed" "the line display key is not echoed itself";
+    DisplayNeedsEcho "display-needs-echo" "the line is displayed only where its key is echoed";
+
+    // Host text after CR.
+    LfNeverSwallowed "lf-never-swallowed" "LF after CR is always obeyed";
+    LfBitReversed "lf-bit-reversed" "bit 1 of parameter 13 swallows LF after CR";
+    LfSwallowedAgain "lf-swallowed-again" "every LF after a swallowed one is swallowed";
+    LfSwallowedWithDet "lf-swallowed-with-det" "LF after CR is swallowed while DET is on too";
+    LfSwallowedWithout30 "lf-swallowed-without-30" "LF after CR is swallowed while 30 is off too";
+    CrOnlyWhileWorking "cr-only-while-working" "a CR before 30 is on and DET off is not remembered";
+    CrForgottenByCalls "cr-forgotten-by-calls" "CR and LF in two calls are not taken together";
+    CrForgottenByCommands "cr-forgotten-by-commands" "a command between CR and LF parts them";
 }
 
 /// The variant of that name.

@@ -1,17 +1,18 @@
 //! What an onlooker is told while a call runs. The terminal itself never
 //! depends on it.
 
+use crate::pad::Pad;
 use crate::screen::Screen;
 use crate::size::{X, Y};
-use crate::telnet::Verb;
+use crate::telnet::{Sub, Verb};
 
 #[derive(Clone, Copy, Debug)]
 pub enum Event<'a> {
     Data(u8),
     Negotiation(Verb, u8),
-    /// An ended one: its option and the count of held bytes.
-    Subnegotiation(Option<u8>, u8),
-    ThrownAway,
+    /// An ended one.
+    Subnegotiation(&'a Sub),
+    ThrownAway(&'a Sub),
     /// A command that draws no ERROR, with its parameters.
     Executed(u8, &'a [u8]),
     /// A command and the number of the ERROR that it draws.
@@ -21,14 +22,22 @@ pub enum Event<'a> {
     Key(u8),
 }
 
+/// The terminal as it is before an event.
+#[derive(Clone, Copy)]
+pub struct Sight<'a> {
+    pub screen: &'a Screen<'a>,
+    pub det: bool,
+    pub pad: &'a Pad,
+}
+
 pub trait Watch {
-    /// Called before the event has any effect on screen and DET.
-    fn saw(&mut self, event: Event, screen: &Screen, det: bool);
+    /// Called before the event has any effect on what is seen.
+    fn saw(&mut self, event: Event, sight: Sight);
 }
 
 /// Nobody looks on.
 pub struct Unwatched;
 
 impl Watch for Unwatched {
-    fn saw(&mut self, _: Event, _: &Screen, _: bool) {}
+    fn saw(&mut self, _: Event, _: Sight) {}
 }

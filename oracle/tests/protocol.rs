@@ -15,25 +15,37 @@ fn last(script: &str) -> String {
     answers(script).pop().expect("an answer")
 }
 
+/// Option 30 off, an empty line and all parameters at their starts.
+const START: &str = " 0 - 00000000000000000000000000000000000000000000000000131100";
+
+/// The last answer, which must end with those.
+fn last_base(script: &str) -> String {
+    let answer = last(script);
+    let base = answer.strip_suffix(START).expect("no trace of option 30");
+    base.into()
+}
+
 #[test]
 fn open_done_and_refused() {
-    assert_eq!(last("open 2 1 2 2"), "0 0 0 - 2 1 0 0 0 0 2020 0000");
-    assert_eq!(last("open 2 1 2 3"), "2 0 0 - 0 0 0 0 0 0 2a2a 111111");
-    assert_eq!(last("open 65535 0 0 1"), "1 0 0 - 0 0 0 0 0 0 - 11");
-    let gone = "open 2 1 2 2\ndet 1\ncursor 1 0\nopen 1 1 1 1";
-    assert_eq!(last(gone), "0 0 0 - 1 1 0 0 0 0 20 00");
+    assert_eq!(last_base("open 2 1 2 2"), "0 0 0 - 2 1 0 0 0 0 2020 0000");
+    assert_eq!(last_base("open 2 1 2 3"), "2 0 0 - 0 0 0 0 0 0 2a2a 111111");
+    assert_eq!(last_base("open 65535 0 0 1"), "1 0 0 - 0 0 0 0 0 0 - 11");
+    let gone = "open 2 1 2 2\ndet 1\ncursor 1 0\npad 1\nopen 1 1 1 1";
+    assert_eq!(last_base(gone), "0 0 0 - 1 1 0 0 0 0 20 00");
 }
 
 #[test]
 fn before_any_open() {
-    assert_eq!(last("host 41 3"), "1 0 0 a5a5a5 0 0 0 0 0 0 - -");
-    assert_eq!(last("key 0 0"), "1 0 0 - 0 0 0 0 0 0 - -");
+    assert_eq!(last_base("host 41 3"), "1 0 0 a5a5a5 0 0 0 0 0 0 - -");
+    assert_eq!(last_base("key 0 0"), "1 0 0 - 0 0 0 0 0 0 - -");
     assert_eq!(last("state"), "data - 0 000000000000");
-    assert_eq!(last("cursor 3 4\nkey 65 1"), "1 0 0 a5 0 0 3 4 0 0 - -");
+    let moved = last_base("cursor 3 4\nkey 65 1");
+    assert_eq!(moved, "1 0 0 a5 0 0 3 4 0 0 - -");
 }
 
 #[test]
 fn host_and_key() {
+    let last = last_base;
     let open = "open 1 1 1 1\n";
     let host = last(&format!("{open}host 41fffd0342 9"));
     assert_eq!(host, "0 4 3 fffc03a5a5a5a5a5a5 1 1 0 0 0 0 41 00");
@@ -49,9 +61,9 @@ fn host_and_key() {
 fn set_lines() {
     let script =
         "open 1 1 1 1\nchars 7e\nattrs 08\nsuppress 1\ndet 1\ncursor 0 0\nheld 0\nkey 97 9";
-    let mut expected = vec!["0 0 0 - 1 1 0 0 0 0 20 00"];
-    expected.extend(["set"; 6]);
-    expected.push("0 1 0 a5a5a5a5a5a5a5a5a5 1 1 0 0 1 1 61 08");
+    let mut expected = vec![format!("0 0 0 - 1 1 0 0 0 0 20 00{START}")];
+    expected.extend(["set"; 6].map(String::from));
+    expected.push(format!("0 1 0 a5a5a5a5a5a5a5a5a5 1 1 0 0 1 1 61 08{START}"));
     assert_eq!(answers(script), expected);
     assert_eq!(last("chars -"), "set");
     assert_eq!(
@@ -66,6 +78,46 @@ fn set_lines() {
         last("open 1 1 1 1\nheld 7\nkey 97 9").split(' ').next(),
         Some("4")
     );
+}
+
+/// The end of an answer: option 30, the line, the parameters.
+fn pad_fields(script: &str) -> String {
+    let answer = last(script);
+    let fields: Vec<&str> = answer.split(' ').skip(12).collect();
+    fields.join(" ")
+}
+
+#[test]
+fn option_30_shows_at_the_end() {
+    let open = "open 37 1 37 37\npad 1\n";
+    let starts = &START[5..];
+    assert_eq!(
+        pad_fields(&format!("{open}key 65 261")),
+        format!("1 41 {starts}")
+    );
+    let off = format!("{open}key 65 261\nkey 0 261\npad 0\nhost - 261");
+    assert_eq!(pad_fields(&off), format!("0 4100 {starts}"));
+    let set = format!("{open}host fffa1e00030280018105fff0 261");
+    let values = "00000002000000000000000000000000000000000000000105131100";
+    assert_eq!(pad_fields(&set), format!("1 - {values}"));
+    let other = format!("{open}host fffa1e00030280018105fff0fffa1e008000fff0 270");
+    assert_eq!(
+        pad_fields(&other),
+        format!("1 - {}", values.replace("0105", "0005"))
+    );
+    let half = format!("{open}host fffa1e000302ff 261");
+    assert_eq!(pad_fields(&half), format!("1 - {starts}"));
+    assert_eq!(last(&format!("{half}\nstate")), "sub-iac 30 3 000302000000");
+    assert_eq!(last("pad 1"), "set");
+    assert_eq!(pad_fields("pad 1\nkey 65 9"), format!("1 - {starts}"));
+}
+
+#[test]
+fn a_message_ignores_count_and_held() {
+    let message = "open 37 1 37 37\npad 1\nhost fffa1e000302 261\nheld 0\nhost 0d07fff0 261";
+    assert!(pad_fields(message).contains(" 00000002000000000000000000070000"));
+    let between = message.replace("held 0", "pad 0\nheld 6\npad 1");
+    assert_eq!(pad_fields(&between), pad_fields(message));
 }
 
 #[test]
@@ -103,7 +155,7 @@ fn a_count_set_outside_a_subnegotiation_stays_until_the_option_byte() {
         last(&format!("{start}host fffa1411 9\nstate")),
         "sub 20 1 110000000000"
     );
-    let read = last(&format!("{start}host fffa1411fff0 9"));
+    let read = last_base(&format!("{start}host fffa1411fff0 9"));
     assert_eq!(read, "0 6 8 fffa14120000fff0a5 1 1 0 0 1 0 20 00");
 }
 
@@ -145,6 +197,9 @@ det 2
 det
 suppress 2
 suppress 1 1
+pad
+pad 2
+pad 1 1
 host 41
 host 41 80001
 host 4 9

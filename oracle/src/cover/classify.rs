@@ -7,7 +7,7 @@ use crate::command::code;
 use crate::reply::DET;
 use crate::screen::{protection, Screen};
 use crate::size::{X, Y};
-use crate::telnet::{Verb, IAC};
+use crate::telnet::{Sub, Verb, IAC};
 use crate::variant::Variant;
 
 impl Cover {
@@ -31,7 +31,8 @@ impl Cover {
         self.count_if(verb == Verb::Will && option == IAC, S::Will255);
     }
 
-    pub fn subnegotiation(&mut self, option: Option<u8>, count: u8, det: bool) {
+    pub fn subnegotiation(&mut self, sub: &Sub, det: bool) {
+        let (option, count) = (sub.option, sub.held.count);
         let ours = option == Some(DET);
         self.count_if(option.is_none(), S::NoOption);
         self.count_if(option.is_some() && !ours, S::OtherOption);
@@ -223,6 +224,7 @@ impl Cover {
 
     /// A key that nothing refused.
     pub fn key(&mut self, key: u8, screen: &Screen) {
+        self.key_taken[usize::from(key)] += 1;
         match key {
             8 => self.back(screen),
             9 => self.tab(screen),

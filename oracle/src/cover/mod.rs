@@ -1,6 +1,9 @@
 //! Counts what a script exercises.
 
 mod classify;
+mod line;
+mod message;
+mod pad;
 mod situation;
 mod table;
 
@@ -15,10 +18,10 @@ use crate::size::Size;
 use crate::telnet::Phase;
 use crate::terminal::Outcome;
 use crate::variant::Variant;
-use crate::watch::{Event, Watch};
+use pad::PadCounts;
 use situation::Situation;
 
-const REFUSALS: usize = 10;
+const REFUSALS: usize = 11;
 const ERRORS: usize = 13;
 
 /// Every count starts at 0; the table asks that each rises.
@@ -31,6 +34,7 @@ pub struct Cover {
     host_refused: [u64; REFUSALS],
     key_taken: [u64; 256],
     key_refused: [[u64; 256]; REFUSALS],
+    pad: PadCounts,
     phases: Vec<(&'static str, u64)>,
     situations: Vec<u64>,
 }
@@ -68,6 +72,7 @@ impl Cover {
             host_refused: [0; REFUSALS],
             key_taken: [0; 256],
             key_refused: [[0; 256]; REFUSALS],
+            pad: PadCounts::new(),
             phases: table::PHASES.map(|name| (name, 0)).to_vec(),
             situations: vec![0; Situation::ALL.len()],
         }
@@ -77,10 +82,13 @@ impl Cover {
         let Some(outcome) = replay.run(line, self) else {
             return;
         };
+        if let Some(refusal) = outcome.refusal {
+            self.pad_refused(refusal, line, &replay.terminal.session);
+        }
         match (line, outcome.refusal) {
             (Line::Host(input, room), None) => self.host_done(replay, outcome, input, *room),
             (Line::Host(..), Some(refusal)) => raise(&mut self.host_refused, refusal),
-            (Line::Key(key, room), None) => self.key_done(replay, *key, *room),
+            (Line::Key(_, room), None) => self.key_done(replay, *room),
             (Line::Key(key, _), Some(refusal)) => self.key_refused(*key, refusal),
             (_, None) => self.count(Situation::Opened),
             (_, Some(refusal)) => raise(&mut self.open_refused, refusal),
@@ -120,10 +128,9 @@ impl Cover {
         }
     }
 
-    fn key_done(&mut self, replay: &Replay, key: u8, room: usize) {
+    fn key_done(&mut self, replay: &Replay, room: usize) {
         let exact = room == replay.terminal.session.size.room();
         self.count_if(exact, Situation::KeyRoomExact);
-        self.key_taken[usize::from(key)] += 1;
     }
 
     fn key_refused(&mut self, key: u8, refusal: Refusal) {
@@ -146,19 +153,4 @@ impl Cover {
 
 fn raise(counts: &mut [u64; REFUSALS], refusal: Refusal) {
     counts[usize::from(refusal.number())] += 1;
-}
-
-impl Watch for Cover {
-    fn saw(&mut self, event: Event, screen: &Screen, det: bool) {
-        match event {
-            Event::Data(byte) => self.data(byte, screen),
-            Event::Negotiation(verb, option) => self.negotiation(verb, option, screen, det),
-            Event::Subnegotiation(option, count) => self.subnegotiation(option, count, det),
-            Event::ThrownAway => self.count(Situation::ThrownAway),
-            Event::Executed(code, parameters) => self.executed(code, parameters, screen),
-            Event::Error(code, number) => self.error(code, number),
-            Event::Limited(x, y) => self.limited(x, y, screen),
-            Event::Key(key) => self.key(key, screen),
-        }
-    }
 }

@@ -2,9 +2,12 @@
 
 use std::fmt;
 
+use super::pad::STYLES;
 use super::situation::Situation;
 use super::Cover;
 use crate::command::{code, error, parameter_count};
+use crate::pad::parameters::{admits, NUMBERS};
+use crate::variant::Variant;
 
 pub const PHASES: [&str; 10] = [
     "data", "iac", "will", "wont", "do", "dont", "sb", "sb-iac", "sub", "sub-iac",
@@ -44,6 +47,12 @@ fn meaningless_keys() -> impl Iterator<Item = u8> {
     (0..=255).filter(|key| !matches!(key, 8 | 9 | 13 | 32..=143))
 }
 
+/// How many values a parameter takes.
+fn choices(number: u8) -> usize {
+    let admitted = (0..=255).filter(|&value| admits(number, value, Variant::None));
+    admitted.count()
+}
+
 impl Cover {
     fn rows(&self) -> Rows {
         let mut rows = Rows::default();
@@ -51,6 +60,7 @@ impl Cover {
         self.error_rows(&mut rows);
         self.refusal_rows(&mut rows);
         self.key_rows(&mut rows);
+        self.pad_rows(&mut rows);
         for (name, count) in &self.phases {
             rows.row(format!("host call that ended in phase {name}"), *count);
         }
@@ -106,7 +116,7 @@ impl Cover {
         for number in 1..=5 {
             rows.row(format!("host refused {number}"), self.host_refused[number]);
         }
-        for number in 1..=9 {
+        for number in 1..=10 {
             let count = self.key_refused[number].iter().sum();
             rows.row(format!("key refused {number}"), count);
         }
@@ -129,6 +139,32 @@ impl Cover {
         rows.sum("key 127 refused 6", &refused[6], 127..=127);
         rows.sum("key 13 refused 8", &refused[8], 13..=13);
         rows.least("each key 128 to 143 refused 8", &refused[8], 128..=143);
+    }
+
+    fn pad_rows(&self, rows: &mut Rows) {
+        let pad = &self.pad;
+        for bit in 0..7 {
+            let label = format!("key forwarded by bit {} of parameter 3", 1 << bit);
+            rows.row(label, pad.forwarded[bit]);
+        }
+        for number in [16, 17, 18, 129] {
+            let label = format!("edit key of parameter {number}");
+            rows.row(label, pad.edited[number]);
+        }
+        for (kind, counts) in ["character", "line"].into_iter().zip(&pad.signals) {
+            for (style, &count) in STYLES.into_iter().zip(counts) {
+                rows.row(format!("{kind} delete signalled by {style}"), count);
+            }
+        }
+        for bit in 0..8 {
+            let label = format!("echo silenced by bit {} of parameter 20", 1 << bit);
+            rows.row(label, pad.silenced[bit]);
+        }
+        let settable = NUMBERS.into_iter().filter(|&number| choices(number) > 1);
+        let limited = NUMBERS.into_iter().filter(|&number| choices(number) < 256);
+        rows.least("each parameter set", &pad.set, settable);
+        rows.least("each parameter given a bad value", &pad.bad, limited);
+        rows.least("each key 0 to 127 taken by the line", &pad.keys, 0..=127);
     }
 
     /// The labels whose count is zero.

@@ -2,6 +2,7 @@
 
 use super::Generator;
 use crate::command::{code, parameter_count};
+use crate::pad::PAD;
 use crate::reply::DET;
 use crate::telnet::{Verb, IAC, SB, SE};
 
@@ -12,7 +13,7 @@ const PALETTE: [u8; 8] = [0, 8, 8, 16, 24, 1, 9, 17];
 const IDLE: [u8; 9] = [241, 242, 246, 249, 239, 0, 20, 65, 127];
 
 /// IAC SB, the bytes with 255 doubled.
-fn begin(bytes: &mut Vec<u8>, option: u8, inside: &[u8]) {
+pub fn begin(bytes: &mut Vec<u8>, option: u8, inside: &[u8]) {
     bytes.extend([IAC, SB]);
     for &byte in [option].iter().chain(inside) {
         bytes.push(byte);
@@ -22,7 +23,7 @@ fn begin(bytes: &mut Vec<u8>, option: u8, inside: &[u8]) {
     }
 }
 
-fn subnegotiation(bytes: &mut Vec<u8>, option: u8, inside: &[u8]) {
+pub fn subnegotiation(bytes: &mut Vec<u8>, option: u8, inside: &[u8]) {
     begin(bytes, option, inside);
     bytes.extend([IAC, SE]);
 }
@@ -127,7 +128,7 @@ impl Generator {
         subnegotiation(bytes, DET, &[code::FORMAT_DATA, map, 0, high, low]);
     }
 
-    fn text(&mut self, bytes: &mut Vec<u8>) {
+    pub fn text(&mut self, bytes: &mut Vec<u8>) {
         let length = match self.rng.below(12) {
             0 => self.size.cells().min(300) + 1,
             _ => self.rng.within(1, 6),
@@ -162,7 +163,7 @@ impl Generator {
     fn option(&mut self) -> u8 {
         match self.rng.below(4) {
             0 => DET,
-            1 => self.rng.pick(&[255, 240, 250, 19, 21]),
+            1 => self.rng.pick(&[255, 240, 250, 19, 21, PAD]),
             _ => self.rng.byte(),
         }
     }
@@ -177,7 +178,7 @@ impl Generator {
         }
     }
 
-    fn idle_command(&mut self) -> u8 {
+    pub fn idle_command(&mut self) -> u8 {
         match self.rng.below(4) {
             0 => SE,
             1 => self.rng.below(240) as u8,
@@ -234,6 +235,11 @@ impl Generator {
             0 => bytes.extend([IAC, SB]),
             _ => begin(bytes, DET, &inside),
         }
+        self.cut_off(bytes);
+    }
+
+    /// What throws a subnegotiation away.
+    pub fn cut_off(&mut self, bytes: &mut Vec<u8>) {
         match self.rng.below(4) {
             0 => bytes.extend([IAC, self.rng.pick(&IDLE)]),
             1 => self.negotiation(bytes),

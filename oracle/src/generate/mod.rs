@@ -4,9 +4,11 @@
 mod bytes;
 mod keys;
 mod opening;
+mod pad;
 mod parameters;
 mod raw;
 
+use crate::pad::parameters::Parameters;
 use crate::rng::Rng;
 use crate::script::Line;
 use crate::size::Size;
@@ -16,7 +18,10 @@ pub fn script(seed: u64, calls: usize) -> Vec<Line> {
     let mut generator = Generator::new(seed);
     generator.before_open();
     while generator.calls < calls {
-        generator.episode(calls);
+        match generator.rng.once_in(4) {
+            true => generator.pad_episode(calls),
+            false => generator.episode(calls),
+        }
     }
     generator.lines
 }
@@ -26,7 +31,11 @@ struct Generator {
     lines: Vec<Line>,
     calls: usize,
     size: Size,
+    /// Option 30's parameters as the script has set them, unless a call was
+    /// refused or cut short.
+    noted: Parameters,
     keys: Sweep,
+    line_keys: Sweep,
     codes: Sweep,
 }
 
@@ -43,13 +52,16 @@ impl Sweep {
 impl Generator {
     fn new(seed: u64) -> Generator {
         let mut rng = Rng::new(seed);
-        let (keys, codes) = (Sweep(rng.byte()), Sweep(rng.byte()));
+        let mut sweep = || Sweep(rng.byte());
+        let (keys, line_keys, codes) = (sweep(), sweep(), sweep());
         Generator {
             rng,
             lines: Vec::new(),
             calls: 0,
             size: Size::default(),
+            noted: Parameters::default(),
             keys,
+            line_keys,
             codes,
         }
     }

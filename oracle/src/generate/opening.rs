@@ -1,6 +1,7 @@
 //! Opens, taken and refused, and what follows a taken one.
 
 use super::Generator;
+use crate::pad::parameters::Parameters;
 use crate::script::Line;
 use crate::size::Size;
 use crate::telnet::{Verb, IAC};
@@ -89,10 +90,16 @@ impl Generator {
     }
 
     pub fn open(&mut self) {
-        self.size = match self.rng.below(30) {
+        let size = match self.rng.below(30) {
             0 => self.rng.pick(&LARGE_SIZES),
             _ => self.small_size(),
         };
+        self.open_sized(size);
+    }
+
+    pub fn open_sized(&mut self, size: Size) {
+        self.size = size;
+        self.noted = Parameters::default();
         let cells = self.size.cells();
         let (m, n) = (self.size.m.into(), self.size.n.into());
         self.push(Line::Open {

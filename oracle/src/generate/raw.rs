@@ -88,11 +88,12 @@ impl Generator {
     /// mended again.
     pub fn spoil(&mut self) {
         for _ in 0..self.rng.within(1, 2) {
-            match self.rng.below(5) {
+            match self.rng.below(6) {
                 0 => self.spoil_length(),
                 1 | 2 => self.spoil_character(),
                 3 => self.spoil_cursor(),
-                _ => self.spoil_held(),
+                4 => self.spoil_held(),
+                _ => self.spoil_pad(),
             }
         }
         for _ in 0..self.rng.within(1, 2) {
@@ -103,6 +104,9 @@ impl Generator {
         self.set_cursor();
         let count = self.rng.pick(&[0, 0, 0, 0, 0, 1, 3, 6]);
         self.push(Line::Held(count));
+        if !self.fits_pad() {
+            self.push(Line::Pad(false));
+        }
     }
 
     /// A wrong length, and often a wrong character besides.
@@ -140,7 +144,12 @@ impl Generator {
         self.push(Line::Held(count));
     }
 
-    fn refused_call(&mut self) {
+    /// Option 30 on, which is unsound on a small screen alone.
+    fn spoil_pad(&mut self) {
+        self.push(Line::Pad(true));
+    }
+
+    pub fn refused_call(&mut self) {
         let short = self.rng.once_in(3);
         let room = self.size.room() - usize::from(short);
         match self.rng.below(3) {

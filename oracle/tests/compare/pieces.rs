@@ -77,7 +77,7 @@ fn a_number_goes_as_low_as_it_fits() {
 
 #[test]
 fn every_number_of_a_line_can_be_set() {
-    let script = "open 5 6 7 8\ncursor 5 6\nheld 5\ndet 1\nsuppress 1\nhost ff 5\nkey 5 6";
+    let script = "open 5 6 7 8\ncursor 5 6\nheld 5\ndet 1\nsuppress 1\npad 1\nhost ff 5\nkey 5 6";
     for line in lines(script) {
         let zeros = vec![0; numbers(&line).len()];
         assert!(!zeros.is_empty());

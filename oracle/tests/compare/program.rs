@@ -49,8 +49,8 @@ fn a_difference_is_cut_down() {
     let output = compare(&["./oracle --variant refuse-room-more", "5", "300"]);
     assert_eq!(output.status.code(), Some(1));
     let text = stdout(&output);
-    let cut = "\ncut down to 2 of 414 lines:\n\nopen 1 1 1 1\n";
-    assert!(text.contains(cut), "{text}");
+    assert!(text.contains("\ncut down to 2 of "), "{text}");
+    assert!(text.contains(" lines:\n\nopen 1 1 1 1\n"), "{text}");
     assert!(text.contains("\n\nline 2 differs\noracle: "), "{text}");
     assert!(text.contains("\nother:  5 0 0 "), "{text}");
 }

@@ -47,6 +47,13 @@ impl Bench {
         Bench::with(8, 2, b"WT 70 #4UNIT mg ", &attrs).at(x, y)
     }
 
+    /// An open screen with option 30 on.
+    pub fn pad(m: u16, n: u16) -> Bench {
+        let mut bench = Bench::open(m, n);
+        assert_eq!(bench.host(&[0xff, 253, 30]), [0xff, 251, 30]);
+        bench
+    }
+
     pub fn at(mut self, x: u8, y: u8) -> Bench {
         self.terminal.session.cursor = Position { x: X(x), y: Y(y) };
         self
@@ -96,6 +103,33 @@ impl Bench {
         self.host(&subcommand(inside))
     }
 
+    /// A message of option 30 that must be taken; the reply.
+    pub fn message(&mut self, inside: &[u8]) -> Vec<u8> {
+        self.host(&subnegotiation(30, inside))
+    }
+
+    /// Pairs set by SET, which draws no reply.
+    pub fn set(mut self, pairs: &[u8]) -> Bench {
+        let inside = [&[0], pairs].concat();
+        assert_eq!(self.message(&inside), []);
+        self
+    }
+
+    /// Keys that must all be taken and draw no reply.
+    pub fn keys(&mut self, keys: &[u8]) {
+        for &key in keys {
+            assert_eq!(self.key(key), [], "key {key}");
+        }
+    }
+
+    pub fn edit_line(&self) -> &[u8] {
+        self.terminal.session.pad.line.bytes()
+    }
+
+    pub fn parameter(&self, number: u8) -> u8 {
+        self.terminal.session.pad.parameters.get(number)
+    }
+
     pub fn cursor(&self) -> (u8, u8) {
         let cursor = self.terminal.session.cursor;
         (cursor.x.0, cursor.y.0)
@@ -107,9 +141,13 @@ impl Bench {
     }
 }
 
-/// IAC SB 20, the bytes with 255 doubled, IAC SE.
 pub fn subcommand(inside: &[u8]) -> Vec<u8> {
-    let mut bytes = vec![0xff, 0xfa, 20];
+    subnegotiation(20, inside)
+}
+
+/// IAC SB, the option, the bytes with 255 doubled, IAC SE.
+pub fn subnegotiation(option: u8, inside: &[u8]) -> Vec<u8> {
+    let mut bytes = vec![0xff, 0xfa, option];
     for &byte in inside {
         bytes.push(byte);
         if byte == 0xff {

@@ -1,5 +1,9 @@
 //! The terminal's rules, call by call.
 
 mod bench;
+mod pad_echo;
+mod pad_line;
+mod pad_messages;
+mod pad_switch;
 mod rules;
 mod worked;

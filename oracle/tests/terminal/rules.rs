@@ -83,7 +83,7 @@ fn a_thrown_away_subnegotiation_yields_to_its_command() {
 fn held_bytes_stop_at_six_for_every_option() {
     let mut form = Bench::form_f(3, 0);
     form.host(&[IAC, 250, 99, 1, 2, 3, IAC, IAC, 5, 6, 7, 8]);
-    let reader = form.terminal.session.reader;
+    let reader = &form.terminal.session.reader;
     let bytes = [1, 2, 3, 255, 5, 6];
     assert_eq!(
         (reader.phase, reader.held),

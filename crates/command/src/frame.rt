@@ -1,6 +1,6 @@
 // The frame with one thing changed, the cursor's cell, and whether the cursor and the attribute bytes are the screen's.
 ghost use mathlib.Core.Path.{_≡_};
-ghost use Rattle.rules.specs.Session.{placed, switched};
+ghost use Rattle.rules.specs.Session.{placed, switched, withX3};
 ghost use Rattle.rules.specs.Cursor.{cursorGuarded};
 ghost use Rattle.screen.specs.Cells.{cellOf};
 ghost use Rattle.command.specs.Frame.{seen, fitting};
@@ -29,8 +29,18 @@ pub fn switched(frame: Frame, det: bool, suppressed: bool) -> Frame
         height: frame.height,
         cursor: cursor,
         det: det,
+        x3: frame.x3,
         suppressed: suppressed,
     }
+}
+
+// The frame with option 30 on or off.
+pub fn with_x3(frame: Frame, x3: bool) -> Frame
+    ensures { λ r. ⌜ r ≡ withX3 frame x3 ⌝ }
+{
+    let mut next = frame;
+    next.x3 = x3;
+    next
 }
 
 pub fn cursor_cell(frame: Frame) -> usize

@@ -3,8 +3,10 @@ ghost use mathlib.Core.Path.{_≡_};
 ghost use Rattle.rules.specs.Number.{faultNumber};
 use rules::Fault;
 
-// The option DET.
+// The options DET and X.3 PAD.
 pub const DET: u8 = 20;
+
+pub const X3: u8 = 30;
 
 // The codes of what the terminal sends.
 pub const EDIT_FACILITIES: u8 = 1;

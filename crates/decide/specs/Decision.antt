@@ -1,14 +1,18 @@
 -- What a decision means: the effect of the rules that it stands for.
 use mathlib.Core.Path.{_≡_}
+use mathlib.Core.Bool.{_&&_}
 use mathlib.Core.List.{List, [], _∷_}
 use Prim.Native.Nat.{ℕ, _≤_}
+use lib.Dec.{eqb}
 use lib.ListN.{length}
 use Rattle.words.specs.Words.{if_then_else_}
 use Rattle.edit.specs.Edits.{formatted}
+use Rattle.rules.specs.declared.Held.{Held}
+use Rattle.rules.specs.Number.{detOption}
 use Rattle.rules.specs.Session.{View, view, withAttrs}
 use Rattle.rules.specs.Effect.{Effect, Part, put, erase, shift, text, message, changing, quiet}
 use Rattle.rules.specs.Telnet.{answer, hostCharacters}
-use Rattle.rules.specs.Subcommand.{preface, fieldTexts, withoutFirst}
+use Rattle.rules.specs.Subcommand.{preface, fieldTexts, withoutFirst, subcommand}
 use Rattle.command.specs.Frame.{fitting}
 use Rattle.decide.specs.declared.decision.Edit.{Edit}
 use Rattle.decide.specs.declared.decision.Edit.the-variants.{Nothing, Put, Erase, Shift, Repeat}
@@ -68,3 +72,7 @@ pub record Decides (v : View) (d : Decision) (rule : View → Effect) : Type 0 w
 -- what a rule says where the cursor is on the screen and the attribute bytes are the screen's; elsewhere nothing is done
 unfoldable pub whereFits : (View → Effect) → View → Effect
 whereFits rule v = if fitting v then rule v else quiet v
+
+-- A subnegotiation that ended, with these bytes held: obeyed if it was option 20's and DET is on. Option 30's are the PAD's.
+unfoldable pub endedDet : View → Held → ℕ → Effect
+endedDet v h option = if eqb option detOption && v .frame .det then subcommand v h else quiet v

@@ -1,7 +1,8 @@
-// Negotiation: option 20 is switched, every other is declined.
+// Negotiation: options 20 and 30 are switched, every other is declined.
 ghost use mathlib.Core.Path.{_≡_};
+ghost use mathlib.Core.Bool.{true, false};
 ghost use Rattle.rules.specs.Session.{view};
-ghost use Rattle.rules.specs.Telnet.{negotiated};
+ghost use Rattle.rules.specs.Telnet.{optionOf, isOn, accepts, turned, negotiated};
 ghost use Rattle.decide.specs.Decision.{Decides};
 ghost use Rattle.decide.specs.inner.Decision.{decision};
 ghost use mathlib.Core.List.{List};
@@ -13,8 +14,11 @@ use crate::decision::Say;
 use crate::decision::quiet;
 use crate::decision::saying;
 use command::frame::switched;
+use command::frame::with_x3;
 use command::number::DET;
+use command::number::X3;
 use rules::Frame;
+use rules::TelnetOption;
 use telnet::Verb;
 
 fn answered(frame: Frame, verb: Verb, option: u8) -> Decision
@@ -29,26 +33,81 @@ fn answered(frame: Frame, verb: Verb, option: u8) -> Decision
     )
 }
 
+// The options that the terminal has.
+fn option_of(option: u8) -> TelnetOption
+    ensures { λ r. ⌜ r ≡ optionOf option ⌝ }
+{
+    match option {
+        DET => TelnetOption::Det,
+        X3 => TelnetOption::X3,
+        _ => TelnetOption::Other,
+    }
+}
+
+fn is_on(frame: Frame, option: TelnetOption) -> bool
+    ensures { λ r. ⌜ r ≡ isOn frame option ⌝ }
+{
+    match option {
+        TelnetOption::Det => frame.det,
+        TelnetOption::X3 => frame.x3,
+        TelnetOption::Other => false,
+    }
+}
+
+// May it be switched on? 30 only where a full edit line fits the reply room.
+fn is_accepted(frame: Frame, option: TelnetOption) -> bool
+    ensures { λ r. ⌜ r ≡ accepts frame option ⌝ }
+{
+    match option {
+        TelnetOption::Det => true,
+        TelnetOption::X3 => 37 <= frame.height as usize * frame.width as usize,
+        TelnetOption::Other => false,
+    }
+}
+
+fn turned_on(frame: Frame, option: TelnetOption) -> Frame
+    ensures { λ r. ⌜ r ≡ turned frame option true ⌝ }
+{
+    match option {
+        TelnetOption::Det => switched(frame, true, frame.suppressed),
+        TelnetOption::X3 => with_x3(frame, true),
+        TelnetOption::Other => frame,
+    }
+}
+
+// With DET off, protection is in effect again.
+fn turned_off(frame: Frame, option: TelnetOption) -> Frame
+    ensures { λ r. ⌜ r ≡ turned frame option false ⌝ }
+{
+    match option {
+        TelnetOption::Det => switched(frame, false, false),
+        TelnetOption::X3 => with_x3(frame, false),
+        TelnetOption::Other => frame,
+    }
+}
+
 fn asked_to(frame: Frame, option: u8) -> Decision
     ensures { λ r. ⌜ ((attrs : List ℕ) → Decides (view frame attrs) r (λ v. negotiated v Verb.Do option)) ⌝ }
 {
-    if option != DET {
-        return answered(frame, Verb::Wont, option);
-    }
-    if frame.det {
+    let known = option_of(option);
+    let on = is_on(frame, known);
+    if on {
         return quiet(frame);
     }
-    answered(switched(frame, true, frame.suppressed), Verb::Will, option)
+    let accepted = is_accepted(frame, known);
+    if accepted {
+        return answered(turned_on(frame, known), Verb::Will, option);
+    }
+    answered(frame, Verb::Wont, option)
 }
 
 fn asked_not_to(frame: Frame, option: u8) -> Decision
     ensures { λ r. ⌜ ((attrs : List ℕ) → Decides (view frame attrs) r (λ v. negotiated v Verb.Dont option)) ⌝ }
 {
-    if option != DET {
-        return quiet(frame);
-    }
-    if frame.det {
-        return answered(switched(frame, false, false), Verb::Wont, option);
+    let known = option_of(option);
+    let on = is_on(frame, known);
+    if on {
+        return answered(turned_off(frame, known), Verb::Wont, option);
     }
     quiet(frame)
 }

@@ -2,15 +2,13 @@
 ghost use mathlib.Core.Path.{_≡_};
 ghost use mathlib.Core.List.{List, [], _∷_};
 ghost use Prim.Native.Nat.{ℕ};
-ghost use Rattle.telnet.specs.declared.Event.{Event};
 ghost use Rattle.rules.specs.Session.{view};
 ghost use Rattle.rules.specs.Number.{cursorPosition, error, ownMap, faultNumber};
 ghost use Rattle.rules.specs.Effect.{message, saying};
 ghost use Rattle.rules.specs.Subcommand.{suppressing, obeyed, subcommand};
-ghost use Rattle.rules.specs.Operation.{happening};
 ghost use Rattle.command.specs.Frame.{seen};
 ghost use Rattle.command.specs.inner.Frame.{Fits};
-ghost use Rattle.decide.specs.Decision.{Decides, whereFits};
+ghost use Rattle.decide.specs.Decision.{Decides, whereFits, endedDet};
 ghost use Rattle.decide.specs.inner.Decision.{decision, Judges};
 use crate::change::char_shift;
 use crate::change::erase;
@@ -242,7 +240,7 @@ fn obey_held(frame: Frame, attrs: &[u8], held: Held) -> Decision
 // A subnegotiation that ended: obeyed if it was option 20's and DET is on.
 fn end_fitting(frame: Frame, attrs: &[u8], held: Held, option: u8) -> Decision
     requires { ⌜ Fits (seen frame attrs) ⌝ }
-    ensures { λ r. ⌜ Decides (seen frame (attrs .entry)) r (λ v. happening v held (Event.End option)) ⌝ }
+    ensures { λ r. ⌜ Decides (seen frame (attrs .entry)) r (λ v. endedDet v held option) ⌝ }
 {
     if option != DET {
         return quiet(frame);
@@ -255,7 +253,7 @@ fn end_fitting(frame: Frame, attrs: &[u8], held: Held, option: u8) -> Decision
 
 // The same of any frame: nothing is done where the cursor is off the screen or the attribute bytes are not the screen's.
 pub fn decide_end(frame: Frame, attrs: &[u8], held: Held, option: u8) -> Decision
-    ensures { λ r. ⌜ Decides (seen frame (attrs .entry)) r (whereFits (λ v. happening v held (Event.End option))) ⌝ }
+    ensures { λ r. ⌜ Decides (seen frame (attrs .entry)) r (whereFits (λ v. endedDet v held option)) ⌝ }
 {
     let fit = fits(frame, attrs);
     if fit {

@@ -2,13 +2,13 @@
 use mathlib.Core.Path.{refl}
 use borrow.Author.Needs.{needs}
 use borrow.Author.Tests.{ne-eqb, eq-eqb}
-use Rattle.rules.specs.Operation.{happening}
+use Rattle.decide.specs.Decision.{endedDet}
 use Rattle.decide.proofs.DecideLaws.{decides, recast}
 use Rattle.decide.proofs.obey.end_fitting.Statement.{statement}
 use Rattle.decide.proofs.obey.end_fitting.Tie as tie
 
 pub end-fitting-spec : {M : Type 1} → statement M
-unfolding happening
+unfolding endedDet
 end-fitting-spec =
     tie.close
     (tie.spec

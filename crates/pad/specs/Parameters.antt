@@ -114,11 +114,6 @@ eachIn (e ∷ es) (v ∷ vs) = admits (e .values) v && eachIn es vs
 abbrev pub allAdmissible : Values → Bool
 allAdmissible vs = eachIn table (vs .held)
 
--- the first n values are admissible, each by its parameter
-unfoldable pub admissibleTo : Values → ℕ → Bool
-admissibleTo vs zero = true
-admissibleTo vs (suc n) = admissibleTo vs n && admissible (numberOf n) (getD (vs .held) n 0)
-
 -- names all of the above: under `unfolding parameters` a proof computes with them
 unfoldable pub parameters : ℕ
 unfolding table admits admitsIn startValues known withPair eachIn

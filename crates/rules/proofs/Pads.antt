@@ -19,7 +19,7 @@ use Rattle.pad.specs.Keys.{lineAfter}
 use Rattle.pad.proofs.ParameterLaws.{start-admissible}
 use Rattle.pad.proofs.LineLaws.{ok-length}
 use Rattle.pad.proofs.MessageLaws.{idle-admissible, begun-admissible, byte-admissible, end-admissible}
-use Rattle.pad.proofs.KeyLaws.{key-line-ok, empty-ok, out-most}
+use Rattle.pad.proofs.KeyLaws.{line-stays-ok, empty-ok, out-most}
 use Rattle.rules.specs.declared.Frame.{Frame}
 use Rattle.rules.specs.declared.Pad.{Pad}
 use Rattle.rules.specs.Session.{State, freshPad, padOk, lineTakesKeys}
@@ -83,7 +83,7 @@ module _ {p : Pad} (k : SoundPad p) where
   -- a key that the edit line takes is below 128
   pub pad-typed : (code : ℕ) → code < 128 → SoundPad (padTyped p code)
   unfolding padTyped
-  pad-typed code h = record { values = k .values; copy = k .copy; line = key-line-ok (p .values) (p .line) code (k .line) h }
+  pad-typed code h = record { values = k .values; copy = k .copy; line = line-stays-ok (p .values) (p .line) code h (k .line) }
 
   -- at most 258 bytes go out at it
   pub sent-most : (code : ℕ) → length (sentAt p code) ≤ 258

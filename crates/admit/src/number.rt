@@ -18,5 +18,6 @@ pub fn number_of(refusal: Refusal) -> u8
         Refusal::WrongClass => 7,
         Refusal::DetOff => 8,
         Refusal::NoMeaning => 9,
+        Refusal::LineFull => 10,
     }
 }

@@ -1,7 +1,7 @@
 // Opening a session, and the answer of any call that is refused.
 ghost use mathlib.Core.Path.{_≡_};
 ghost use mathlib.Core.List.{[]};
-ghost use Rattle.rules.specs.Session.{fresh};
+ghost use Rattle.rules.specs.Session.{freshPad, fresh};
 ghost use Rattle.rules.specs.Operation.{outcome, opened};
 ghost use Rattle.command.specs.Frame.{lent};
 ghost use Rattle.admit.specs.Refused.{refusedAnswer};
@@ -9,8 +9,12 @@ use crate::refuse::refuse_sizes;
 use command::held::none;
 use edit::range::erase;
 use edit::range::format;
+use pad::line::EditLine;
+use pad::message::idle;
+use pad::parameter::start;
 use rules::Answer;
 use rules::Frame;
+use rules::Pad;
 use rules::Reader;
 use rules::Refusal;
 use rules::Session;
@@ -19,11 +23,23 @@ use screen::cell::Line;
 use screen::cell::Place;
 use telnet::Phase;
 
-// Cursor (0,0), DET off, protection in effect, nothing half read.
+// Parameters at their start, an empty edit line, nothing half read.
+fn fresh_pad() -> Pad
+    ensures { λ r. ⌜ r ≡ freshPad ⌝ }
+{
+    Pad {
+        values: start(),
+        line: EditLine::new(),
+        message: idle(),
+    }
+}
+
+// Cursor (0,0), both options off, protection in effect, nothing half read.
 fn fresh_session(width: u8, height: u8) -> Session
     ensures { λ r. ⌜ r ≡ fresh width height ⌝ }
 {
     let held = none();
+    let pad = fresh_pad();
     Session {
         frame: Frame {
             width: width,
@@ -33,12 +49,15 @@ fn fresh_session(width: u8, height: u8) -> Session
                 y: Line(0),
             },
             det: false,
+            x3: false,
             suppressed: false,
         },
         reader: Reader {
             phase: Phase::Rest,
             held: held,
+            cr: false,
         },
+        pad: pad,
     }
 }
 

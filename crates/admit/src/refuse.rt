@@ -1,11 +1,15 @@
 // What every operation asks of its sizes, session and buffers, in document 01's order.
 ghost use mathlib.Core.Path.{_≡_};
+ghost use mathlib.Core.Bool.{not, _||_};
 ghost use Prim.Native.Nat.{min, max};
-ghost use Rattle.rules.specs.Session.{sizesOk, replyRoom, freshFrame, allPrintable, sessionOk, state};
+ghost use lib.Dec.{leb};
+ghost use Rattle.rules.specs.Session.{sizesOk, cells, replyRoom, x3Cells, freshFrame, allPrintable, padOk, sessionOk, state};
 ghost use Rattle.rules.specs.Refusal.{verdict, sizeTests, stateTests};
 ghost use Rattle.rules.specs.Operation.{hostRefusal};
 ghost use Rattle.command.specs.Frame.{lent};
+use pad::parameter::all_admissible;
 use rules::Frame;
+use rules::Pad;
 use rules::Refusal;
 use rules::Session;
 use screen::cell::on_screen;
@@ -50,7 +54,36 @@ fn all_printable(chars: &[u8]) -> bool
     32 <= low && high <= 126
 }
 
-// The cursor is on the screen, and at most six bytes are held.
+// Option 30 is off, or there are cells enough for a full edit line to fit the reply room.
+fn x3_fits(frame: Frame) -> bool
+    ensures { λ r. ⌜ r ≡ (not (frame .x3) || leb x3Cells (cells frame)) ⌝ }
+{
+    if !frame.x3 {
+        return true;
+    }
+    37 <= frame.height as usize * frame.width as usize
+}
+
+// Every value is admissible, those of the half-read message's copy too, and the edit line is in its range.
+fn pad_ok(pad: Pad) -> bool
+    ensures { λ r. ⌜ r ≡ padOk pad ⌝ }
+{
+    let values = pad.values;
+    let admissible = all_admissible(values);
+    if !admissible {
+        return false;
+    }
+    let message = pad.message;
+    let copy = message.copy;
+    let copied = all_admissible(copy);
+    if !copied {
+        return false;
+    }
+    let line = pad.line;
+    line.is_sound()
+}
+
+// The cursor is on the screen, at most six bytes are held, option 30 fits, and the PAD is in its ranges.
 fn session_ok(session: Session) -> bool
     ensures { λ r. ⌜ r ≡ sessionOk session ⌝ }
 {
@@ -60,7 +93,15 @@ fn session_ok(session: Session) -> bool
     if !inside {
         return false;
     }
-    session.reader.held.count <= 6
+    if 6 < session.reader.held.count {
+        return false;
+    }
+    let wide = x3_fits(frame);
+    if !wide {
+        return false;
+    }
+    let pad = session.pad;
+    pad_ok(pad)
 }
 
 // The worst single reply: 7C + 2.

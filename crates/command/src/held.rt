@@ -3,7 +3,7 @@ ghost use mathlib.Core.Path.{_≡_};
 ghost use Prim.Native.Nat.{_<_, min};
 ghost use lib.ListN.{getD};
 ghost use Rattle.rules.specs.Session.{noneHeld};
-ghost use Rattle.rules.specs.Telnet.{holding, heldAfter};
+ghost use Rattle.rules.specs.Telnet.{holding, heldAfter, crAfter};
 ghost use Rattle.rules.specs.Command.{codeIn, parameter, placeIn, formatCount};
 ghost use Rattle.command.specs.Held.{holdingAll};
 use rules::Held;
@@ -105,6 +105,22 @@ pub fn held_after(held: Held, event: Event) -> Held
         Event::End(_) => none(),
         Event::EndBare => none(),
         Event::Lost => none(),
+    }
+}
+
+// Whether the last byte of data was a CR, after what the reader told.
+pub fn cr_after(cr: bool, event: Event) -> bool
+    ensures { λ r. ⌜ r ≡ crAfter cr event ⌝ }
+{
+    match event {
+        Event::Nothing => cr,
+        Event::Data(byte) => byte == 13,
+        Event::Negotiation { verb: _, option: _ } => cr,
+        Event::Begin(_) => cr,
+        Event::Sub { option: _, byte: _ } => cr,
+        Event::End(_) => cr,
+        Event::EndBare => cr,
+        Event::Lost => cr,
     }
 }
 

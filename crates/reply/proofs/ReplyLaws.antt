@@ -1,5 +1,5 @@
 -- What the pieces come to, where there is room for them all.
-use mathlib.Core.Path.{_≡_, refl, sym, ap, _∙_}
+use mathlib.Core.Path.{_≡_, refl, sym, ap, subst, _∙_}
 use mathlib.Core.Bool.{Bool, true, false}
 use mathlib.Core.List.{List, [], _∷_, _++_, append-assoc, append-nil}
 use Prim.Native.Nat.{ℕ, zero, suc, _+_, _≤_}
@@ -24,7 +24,7 @@ use Rattle.decide.specs.declared.decision.Say.{Say}
 use Rattle.decide.specs.declared.decision.Say.the-variants.{Silent, Negotiation, Two, Three, Preface, Text, Fields}
 use Rattle.decide.specs.Decision.{partsOf, Sendable}
 use Rattle.reply.specs.Written.{Buffer, buffer, wroteAll, Wrote}
-use Rattle.rules.specs.Number.{detOption, dataTransmit, fieldSeparator}
+use Rattle.rules.specs.Number.{detOption, x3Option, dataTransmit, fieldSeparator}
 use Rattle.reply.specs.Pieces.{doubledPieces, messagePieces, textPiece, fieldPieces, sayPieces}
 use Rattle.reply.specs.inner.Reply.{Sayable}
 use Rattle.reply.proofs.WriteLaws.{whole, wrote-by}
@@ -110,3 +110,12 @@ pub said : {say : Say} {chars attrs reply : List ℕ} {at : ℕ} {reply′ : Lis
     → Wrote reply at (sayPieces chars attrs say) reply′ at′ → Emitted reply at (spelledAll chars (partsOf attrs say)) reply′ at′
 said {say} {chars} {attrs} s w =
     let e = joined-say chars attrs say (s .sendable) (s .long) in rw e at (wrote-emitted (sayPieces chars attrs say) (rw e (s .room)) w)
+
+-- RESPONSE-IS, where there is room for it
+pub responded : (payload : List ℕ) {reply : List ℕ} {at : ℕ} {reply′ : List ℕ} {at′ : ℕ} → Room reply at (subnegotiation x3Option payload)
+    → Wrote reply at (messagePieces x3Option payload) reply′ at′ → Emitted reply at (subnegotiation x3Option payload) reply′ at′
+responded payload {reply} {at} room w =
+    let e : joined (messagePieces x3Option payload) ≡ subnegotiation x3Option payload =
+    ap joined (sym (append-nil (messagePieces x3Option payload))) ∙ joined-message x3Option refl payload [] ∙ append-nil _ in
+    let done = wrote-emitted (messagePieces x3Option payload) (subst (λ l. Room reply at l) (sym e) room) w in
+    record { next = done .next ∙ ap (λ l. at + length l) e; stored = done .stored ∙ ap (λ l. sets reply at l) e }

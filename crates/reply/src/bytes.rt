@@ -12,7 +12,7 @@ pub(crate) fn put_bytes(reply: &mut [u8], at: usize, bytes: &[u8]) -> usize
 }
 
 // A byte of a payload: IAC is written twice.
-fn put_doubled(reply: &mut [u8], at: usize, byte: u8) -> usize
+pub(crate) fn put_doubled(reply: &mut [u8], at: usize, byte: u8) -> usize
     ensures { λ r. ⌜ Wrote (now (reply .entry)) at (doubledPieces (byte ∷ [])) (now (reply .exit)) r ⌝ }
 {
     if byte == IAC {

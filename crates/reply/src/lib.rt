@@ -13,6 +13,7 @@ use decide::decision::Say;
 mod bytes;
 mod field;
 mod message;
+pub mod response;
 mod single;
 mod transmission;
 

@@ -11,9 +11,9 @@ use Rattle.rules.specs.declared.Frame.{Frame}
 use Rattle.rules.specs.Session.{View, printable, screen, view}
 use Rattle.rules.specs.Effect.{Effect, changedAll, changing}
 use Rattle.rules.specs.Cursor.{cursorGuarded}
-use Rattle.rules.specs.Telnet.{hostCharacter, hostData}
+use Rattle.rules.specs.Telnet.{hostCharacter, hostData, hostText}
 use Rattle.rules.proofs.Characters.{changed-append}
-use Rattle.text.specs.Text.{Changes, hostText}
+use Rattle.text.specs.Text.{Changes}
 use Rattle.text.specs.inner.Text.{Texted}
 
 -- ---- one byte
@@ -42,6 +42,18 @@ unfolding hostText
 text-next v [] b = rw append-nil
 text-next v (x ∷ xs) b = rw (text-next ((hostData v x) .view) xs b, append-assoc)
 
+-- so what some bytes do, and then one more
+pub text-more : {attrs : List ℕ} (xs : List ℕ) (f₀ : Frame) {chars₀ : List ℕ} {f : Frame} {chars : List ℕ}
+    → Changes (hostText (view f₀ attrs) xs) (screen chars₀ attrs) f chars → (b : ℕ) {f′ : Frame} {chars′ : List ℕ}
+    → Changes (hostData (view f attrs) b) (screen chars attrs) f′ chars′
+    → Changes (hostText (view f₀ attrs) (xs ++ (b ∷ []))) (screen chars₀ attrs) f′ chars′
+text-more {attrs} xs f₀ {f = f} r b one =
+    let after : view f attrs ≡ (hostText (view f₀ attrs) xs) .view = λ i. view ((r .frame) i) (sym (text-keeps (view f₀ attrs) xs) i) in
+    rw text-next (record {
+      frame = rw (← after) (one .frame);
+      characters = rw (changed-append, ← after, ← r .characters) (one .characters);
+    })
+
 pub texted-none : (attrs bytes : List ℕ) (f : Frame) (chars : List ℕ) → Texted attrs bytes f chars 0 f chars
 unfolding hostText changedAll
 texted-none attrs bytes f chars = record { frame = refl; characters = refl }
@@ -51,13 +63,7 @@ module _ {attrs : List ℕ} (bytes : List ℕ) (f₀ : Frame) {chars₀ : List �
   -- a byte more
   pub texted-more : {f′ : Frame} {chars′ : List ℕ} → at < length bytes
       → Changes (hostData (view f attrs) (getD bytes at 0)) (screen chars attrs) f′ chars′ → Texted attrs bytes f₀ chars₀ (at + 1) f′ chars′
-  texted-more h one =
-      let xs = take at bytes in
-      let after : view f attrs ≡ (hostText (view f₀ attrs) xs) .view = λ i. view ((r .frame) i) (sym (text-keeps (view f₀ attrs) xs) i) in
-      rw (add-one, take-suc bytes at 0 h, text-next) (record {
-        frame = rw (← after) (one .frame);
-        characters = rw (changed-append, ← after, ← r .characters) (one .characters);
-      })
+  texted-more h one = rw (add-one, take-suc bytes at 0 h) (text-more (take at bytes) f₀ r (getD bytes at 0) one)
 
   -- all of them
   pub texted-all : length bytes ≤ at → Changes (hostText (view f₀ attrs) bytes) (screen chars₀ attrs) f chars

@@ -1,21 +1,28 @@
--- What becomes of the lent characters, and what host data does.
+-- What becomes of the lent characters, and host data in which an LF is passed over.
 use mathlib.Core.Path.{_≡_}
-use mathlib.Core.List.{List, [], _∷_, _++_}
+use mathlib.Core.Bool.{Bool, false}
+use mathlib.Core.List.{List, [], _∷_}
 use Prim.Native.Nat.{ℕ}
+use lib.Dec.{eqb}
+use Rattle.words.specs.Words.{if_then_else_}
+use Rattle.pad.specs.Host.{passedOver}
 use Rattle.rules.specs.declared.Frame.{Frame}
-use Rattle.rules.specs.Session.{Screen, View}
-use Rattle.rules.specs.Effect.{Effect, changedAll, changing, quiet}
-use Rattle.rules.specs.Telnet.{hostData}
+use Rattle.rules.specs.Session.{Screen}
+use Rattle.rules.specs.Effect.{Effect, changedAll}
 
 -- the frame and the characters afterwards
 pub record Changes (e : Effect) (b : Screen) (f : Frame) (chars : List ℕ) : Type 0 where
   pub frame : f ≡ e .view .frame
   pub characters : chars ≡ changedAll (b .chars) (b .attrs) (e .changes)
 
--- host data, one byte after the other
-unfoldable pub hostText : View → List ℕ → Effect
-hostText v [] = quiet v
-hostText v (b ∷ bs) =
-    let one = hostData v b in
-    let rest = hostText (one .view) bs in
-    changing (rest .view) (one .changes ++ rest .changes)
+-- the bytes of data that are obeyed while CR LF is printed as CR: an LF right after a CR is passed over
+unfoldable pub joined : Bool → List ℕ → List ℕ
+joined cr [] = []
+joined cr (b ∷ bs) =
+    let rest = joined (eqb b 13) bs in
+    if passedOver false cr b then rest else b ∷ rest
+
+-- is the last byte of data a CR, these having come after it
+unfoldable pub endsInCr : Bool → List ℕ → Bool
+endsInCr cr [] = cr
+endsInCr cr (b ∷ bs) = endsInCr (eqb b 13) bs

@@ -4,7 +4,8 @@ use Prim.Native.Nat.{ℕ}
 use lib.ListN.{take}
 use Rattle.rules.specs.declared.Frame.{Frame}
 use Rattle.rules.specs.Session.{screen, view}
-use Rattle.text.specs.Text.{Changes, hostText}
+use Rattle.rules.specs.Telnet.{hostText}
+use Rattle.text.specs.Text.{Changes}
 
 -- what the first `at` bytes do
 abbrev pub Texted : (attrs bytes : List ℕ) (f₀ : Frame) (chars₀ : List ℕ) (at : ℕ) (f : Frame) (chars : List ℕ) → Type 0

@@ -1,7 +1,8 @@
--- `fresh_session` meets its contract: no bytes are held.
+-- `fresh_session` meets its contract: no bytes are held, and the PAD is fresh.
 use borrow.Author.Needs.{needs}
 use Rattle.admit.proofs.open.fresh_session.Statement.{statement}
 use Rattle.admit.proofs.open.fresh_session.Tie as tie
 
 pub fresh-session-spec : {M : Type 1} → statement M
-fresh-session-spec = tie.close (tie.spec (λ c κs. search needs) (λ c. rw (c .none .ensures)))
+fresh-session-spec =
+    tie.close (tie.spec (λ c κs. search needs) (λ c κs. search needs) (λ c. rw (c .fresh-pad .ensures, c .before .none .ensures)))

@@ -1,0 +1,83 @@
+// Keys that the edit line takes.
+ghost use mathlib.Core.Path.{_≡_};
+ghost use Rattle.rules.specs.Refusal.{verdict};
+ghost use Rattle.rules.specs.Telnet.{hostText};
+ghost use Rattle.rules.specs.Pad.{takesKey, lineTests, padTyped, echoedAt};
+ghost use Rattle.command.specs.Frame.{lent, seen};
+ghost use Rattle.text.specs.Text.{Changes};
+ghost use Rattle.pad.specs.Line.{textOf};
+ghost use Rattle.pad.specs.Echo.{bytesOf};
+use crate::told::with_line;
+use pad::echo::Echo;
+use pad::echo::echo_at;
+use pad::echo::echo_length;
+use pad::echo::echo_of;
+use pad::key::line_after;
+use pad::key::overfills;
+use pad::line::EditLine;
+use rules::Frame;
+use rules::Pad;
+use rules::Refusal;
+use text::data::take_data;
+
+// Does the line take the key: option 30 on, DET off, and 0 to 127?
+pub fn takes_key(frame: Frame, code: u8) -> bool
+    ensures { λ r. ⌜ r ≡ takesKey frame code ⌝ }
+{
+    if !frame.x3 {
+        return false;
+    }
+    if frame.det {
+        return false;
+    }
+    code < 128
+}
+
+// Refusal 10.
+pub fn refuse_line(pad: Pad, code: u8) -> Refusal
+    ensures { λ r. ⌜ r ≡ verdict (lineTests pad code) ⌝ }
+{
+    let values = pad.values;
+    let line = pad.line;
+    let full = overfills(values, line, code);
+    if full {
+        return Refusal::LineFull;
+    }
+    Refusal::Taken
+}
+
+// An echo, written as host text: the frame after it.
+fn write_echo(frame: Frame, echo: Echo, line: EditLine, chars: &mut [u8], attrs: &[u8]) -> Frame
+    ensures { λ r. ⌜ Changes (hostText (seen frame (attrs .entry)) (bytesOf echo (textOf line)))
+        (lent (chars .entry) (attrs .entry)) r (now (chars .exit)) ⌝ }
+{
+    let count = echo_length(echo, line);
+    let mut now = frame;
+    let mut i = 0;
+    while i < count {
+        let next = echo_at(echo, line, i);
+        now = take_data(now, next, chars, attrs);
+        i += 1;
+    }
+    now
+}
+
+// What is echoed at a key, written as host text: the frame after it.
+pub fn echo_key(frame: Frame, pad: Pad, code: u8, chars: &mut [u8], attrs: &[u8]) -> Frame
+    ensures { λ r. ⌜ Changes (hostText (seen frame (attrs .entry)) (echoedAt pad code))
+        (lent (chars .entry) (attrs .entry)) r (now (chars .exit)) ⌝ }
+{
+    let values = pad.values;
+    let line = pad.line;
+    let echo = echo_of(values, line, code);
+    write_echo(frame, echo, line, chars, attrs)
+}
+
+// The PAD after a key.
+pub fn type_key(pad: Pad, code: u8) -> Pad
+    ensures { λ r. ⌜ r ≡ padTyped pad code ⌝ }
+{
+    let values = pad.values;
+    let line = pad.line;
+    with_line(pad, line_after(values, line, code))
+}

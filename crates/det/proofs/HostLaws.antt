@@ -1,5 +1,6 @@
 -- Laws of taking host bytes: none, one, a stretch, and some after others.
-use mathlib.Core.Path.{_≡_, sym, ap, _∙_}
+use mathlib.Core.Path.{_≡_, refl, sym, ap, _∙_}
+use mathlib.Core.Bool.{Bool, true, false}
 use mathlib.Core.List.{List, [], _∷_, append-nil}
 use Prim.Native.Nat.{ℕ, _+_, _-_, _≤_, _<_}
 use native.Mathlib.Nat.{zero-add, sub-zero, add-zero}
@@ -8,21 +9,36 @@ use lib.ListN.{length, getD, take, drop, length-drop}
 use lib.Seq.{length-take-le}
 use Rattle.telnet.specs.Stream.{part}
 use Rattle.telnet.proofs.PartLaws.{part-none, part-one, part-then, part-rest}
+use Rattle.telnet.specs.declared.Event.{Event}
+use Rattle.telnet.specs.declared.Event.the-variants.{Nothing, Data, Negotiation, Begin, Sub, End, EndBare, Lost}
+use Rattle.telnet.specs.declared.Verb.the-variants.{Will, Wont, Do, Dont}
+use Rattle.words.specs.Words.{bit}
+use Rattle.pad.specs.Parameters.{parameters}
+use Rattle.pad.specs.Line.{lines}
+use Rattle.pad.specs.Message.{messages}
+use Rattle.pad.specs.Host.{printsLf}
 use Rattle.rules.specs.declared.Frame.{Frame}
 use Rattle.rules.specs.declared.Reader.{Reader}
+use Rattle.rules.specs.declared.Pad.{Pad}
 use Rattle.rules.specs.declared.Refusal.the-variants.{Taken}
 use Rattle.rules.specs.Session.{Screen, State, replyRoom, session, state, view}
+use Rattle.rules.specs.Effect.{Effect}
+use Rattle.rules.specs.Telnet.{heldAfter, crAfter}
+use Rattle.rules.specs.Pad.{empties, padAfter}
 use Rattle.rules.specs.Operation.{Ran, outcome, happening, hostByte, running, takenOf}
+use Rattle.rules.proofs.Pads.{SoundPad}
 use Rattle.rules.proofs.Sound.{Sound, sound-running, passes}
 use Rattle.rules.proofs.Room.{room-byte}
 use Rattle.rules.proofs.Running.{running-append, silent-taken, taken-step}
 use Rattle.det.specs.declared.apply.Applied.{Applied}
 use Rattle.det.specs.declared.take.Told.{Told}
+use Rattle.det.specs.declared.take.Turn.{Turn}
 use Rattle.words.specs.Stored.{Emitted}
+use Rattle.det.specs.inner.Data.{detEffect}
 use Rattle.det.specs.inner.Apply.{Applies, Answerable}
-use Rattle.det.specs.inner.Take.{Accepts, Taking, QuietRun, Tells, hostTaken}
+use Rattle.det.specs.inner.Take.{Accepts, freshWith, AcceptsTurn, inMessage, Taking, QuietRun, QuietTurn, QuietTurns, Tells, Turns, hostTaken}
 use Rattle.words.proofs.StoredLaws.{emitted-none, emitted-length, emitted-then, emitted-whole}
-use Rattle.det.proofs.TakeLaws.{accepted, byte-answerable, byte-state, byte-replies}
+use Rattle.det.proofs.TakeLaws.{accepted, det-effect, byte-answerable, byte-state, byte-replies}
 
 -- ---- none, and some after others
 
@@ -104,31 +120,115 @@ module _ (s : State) (reply : List ℕ) (at : ℕ) (a : Accepts s reply at) wher
           let z = sound .view .sizes in
           passes sound (drop at reply) (rw (z .width, z .height) (k .room))
 
+-- ---- what is asked with a fresh PAD
+
+fresh-prints : (lf : Bool) → printsLf (freshWith lf .values) ≡ lf
+unfolding printsLf bit parameters
+fresh-prints true = refl
+fresh-prints false = refl
+
+fresh-sound : (lf : Bool) → SoundPad (freshWith lf)
+unfolding parameters lines messages
+fresh-sound true = record { values = refl; copy = refl; line = refl }
+fresh-sound false = record { values = refl; copy = refl; line = refl }
+
+-- what is asked with any PAD
+pub accepts-turn : (f : Frame) (r : Reader) (p : Pad) (lf : Bool) (b : Screen) (reply : List ℕ) (at : ℕ) → Accepts (state (session f r p) b) reply at
+    → AcceptsTurn f r lf b reply at
+accepts-turn f r p lf b reply at a =
+    let k = accepted (state (session f r p) b) reply at a in
+    let s = k .sound in
+    passes (record { view = s .view; held = s .held; pad = fresh-sound lf; chars = s .chars }) (drop at reply) (k .room)
+
 -- ---- what is told next
 
-module _ (f : Frame) (r : Reader) (b : Screen) (reply : List ℕ) (at : ℕ) (a : Accepts (state (session f r) b) reply at)
-    {input : List ℕ} {from : ℕ} {t : Told} (k : Tells r input from t) where
-  -- the state before the byte that tells it
-  abbrev mid : State
-  mid = state (session f (record { phase = k .phase; held = t .held })) b
+module _ (f : Frame) (r : Reader) (lf : Bool) (b : Screen) (reply : List ℕ) (at : ℕ) {input : List ℕ} {from : ℕ} {t : Told} (k : Tells r input from t) where
+  -- what is done on it
+  abbrev tells-effect : Effect
+  tells-effect = detEffect (view f (b .attrs)) lf (t .held) (r .cr) (t .event)
 
-  mid-accepts : Accepts mid reply at
-  mid-accepts = accepts-run (state (session f r) b) reply at a (k .quiet f b)
+  module _ (p : Pad) (prints : printsLf (p .values) ≡ lf) (a : Accepts (state (session f r p) b) reply at) where
+    -- the state before the byte that tells it
+    abbrev mid : State
+    mid = state (session f (record { phase = k .phase; held = t .held; cr = r .cr }) (k .before p)) b
 
-  -- the reply to it can be written
-  pub told-answerable : Answerable (happening (view f (b .attrs)) (t .held) (t .event)) f b reply at
-  told-answerable = byte-answerable mid reply at mid-accepts (getD input (k .last) 0) (k .step)
+    mid-accepts : Accepts mid reply at
+    mid-accepts = accepts-run (state (session f r p) b) reply at a (k .quiet f p b)
 
-  -- and what is done is what the bytes do
-  pub told-taking : {done : Applied} {b′ : Screen} {reply′ : List ℕ} → Applies (happening (view f (b .attrs)) (t .held) (t .event)) b reply at done b′ reply′
-      → (from < t .next) × Taking (state (session f r) b) input from reply at (state (session (done .frame) (t .reader)) b′) (t .next) reply′ (done .written)
-  told-taking h =
-      let byte = getD input (k .last) 0 in
-      let run = k .quiet f b in
-      let far : from < t .next = omega (arith, run .onward, k .next) in
-      let after = byte-state mid reply at mid-accepts byte (k .step) h (k .held) in
-      let one = taking-byte mid reply at mid-accepts (k .lies) after (byte-replies mid reply at mid-accepts byte (k .step) h) in
-      (far, rw (k .next) (taking-then (taking-run (state (session f r) b) reply at a run) one))
+    same-effect : happening (view f (b .attrs)) (mid .session .reader) (k .before p) (t .event) ≡ tells-effect
+    same-effect = det-effect _ _ _ _ (k .unasked) ∙ rw (k .values p, prints)
+
+    -- the reply to it can be written
+    answerable : Answerable tells-effect f b reply at
+    answerable = rw (← same-effect) (byte-answerable mid reply at mid-accepts (getD input (k .last) 0) (k .step))
+
+    -- and what is done is what the bytes do
+    taking : {done : Applied} {b′ : Screen} {reply′ : List ℕ} → Applies tells-effect b reply at done b′ reply′
+        → Taking (state (session f r p) b) input from reply at (state (session (done .frame) (t .reader) (padAfter f p (t .event))) b′) (t .next) reply′ (done .written)
+    taking {done} {b′} h =
+        let byte = getD input (k .last) 0 in
+        let run = k .quiet f p b in
+        let does = rw (← same-effect) at h in
+        let stands : t .reader ≡ record { phase = t .reader .phase; held = heldAfter (t .held) (t .event); cr = crAfter (r .cr) (t .event) } =
+        λ i. record { phase = t .reader .phase; held = (k .held) i; cr = (k .cr) i } in
+        let ends = byte-state mid reply at mid-accepts byte (k .step) does stands in
+        let one = taking-byte mid reply at mid-accepts (k .lies) (rw (k .pad f p) at ends) (byte-replies mid reply at mid-accepts byte (k .step) does) in
+        rw (k .next) (taking-then (taking-run (state (session f r p) b) reply at a run) one)
+
+  pub told-answerable : AcceptsTurn f r lf b reply at → Answerable tells-effect f b reply at
+  told-answerable a = answerable (freshWith lf) (fresh-prints lf) a
+
+  pub told-turns : {done : Applied} {b′ : Screen} {reply′ : List ℕ} → Applies tells-effect b reply at done b′ reply′
+      → (from < t .next)
+      × Turns f r lf b input from reply at
+      (record { frame = done .frame; reader = t .reader; event = t .event; end = t .next; written = done .written }) b′ reply′
+  told-turns h =
+      (omega (arith, k .quiet f (freshWith lf) b .onward, k .next), λ p prints a. taking p prints a h)
+
+-- ---- a stretch, and what is told after it
+
+-- the PAD goes by option 30 on or off alone
+pad-by-x3 : (f g : Frame) (p : Pad) (e : Event) → f .x3 ≡ g .x3 → padAfter f p e ≡ padAfter g p e
+unfolding padAfter empties
+pad-by-x3 f g p Nothing h = refl
+pad-by-x3 f g p (Data b) h = refl
+pad-by-x3 f g p (Negotiation Dont option) h = rw h
+pad-by-x3 f g p (Negotiation Do option) h = refl
+pad-by-x3 f g p (Negotiation Will option) h = refl
+pad-by-x3 f g p (Negotiation Wont option) h = refl
+pad-by-x3 f g p (Begin option) h = refl
+pad-by-x3 f g p (Sub option b) h = refl
+pad-by-x3 f g p (End option) h = rw h
+pad-by-x3 f g p EndBare h = refl
+pad-by-x3 f g p Lost h = refl
+
+module _ {f : Frame} {r : Reader} {lf : Bool} {b b₁ : Screen} {input : List ℕ} {from at : ℕ} {t : Turn} (reply : List ℕ)
+    (q : QuietTurns f r lf b input from at t b₁) where
+  abbrev quiet : (p : Pad) → printsLf (p .values) ≡ lf → QuietRun (state (session f r p) b) input from (state (session (t .frame) (t .reader) p) b₁) (t .end)
+  quiet p prints = q p prints .run
+
+  pub stretch-accepts : AcceptsTurn f r lf b reply at → AcceptsTurn (t .frame) (t .reader) lf b₁ reply at
+  stretch-accepts a = accepts-run (state (session f r (freshWith lf)) b) reply at a (quiet (freshWith lf) (fresh-prints lf))
+
+  pub stretch-outside : inMessage (t .reader .phase) ≡ false
+  stretch-outside = q (freshWith lf) (fresh-prints lf) .stands
+
+  pub stretch-onward : from ≤ t .end
+  stretch-onward = quiet (freshWith lf) (fresh-prints lf) .onward
+
+  -- alone
+  pub stretch-turns : Turns f r lf b input from reply at
+      (record { frame = t .frame; reader = t .reader; event = Nothing; end = t .end; written = at }) b₁ reply
+  unfolding padAfter
+  stretch-turns p prints a = taking-run (state (session f r p) b) reply at a (quiet p prints)
+
+  -- and more
+  pub then-turns : {u : Turn} {b₂ : Screen} {reply′ : List ℕ} → Turns (t .frame) (t .reader) lf b₁ input (t .end) reply at u b₂ reply′
+      → Turns f r lf b input from reply at u b₂ reply′
+  then-turns {u} w p prints a =
+      let run = quiet p prints in
+      let rest = w p prints (accepts-run (state (session f r p) b) reply at a run) in
+      taking-then (taking-run (state (session f r p) b) reply at a run) (rw (pad-by-x3 (t .frame) f p (u .event) (q p prints .x3)) at rest)
 
 -- ---- a whole call
 

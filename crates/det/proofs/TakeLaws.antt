@@ -1,5 +1,6 @@
 -- Laws of one host byte: what is decided on its event, and what the decision does.
 use mathlib.Core.Path.{_≡_, refl, sym, ap, _∙_}
+use mathlib.Core.Bool.{Bool, false}
 use mathlib.Core.List.{List, [], _∷_}
 use Prim.Native.Nat.{ℕ, _+_, _≤_}
 use native.Mathlib.Omega.{arith}
@@ -13,12 +14,15 @@ use Rattle.telnet.specs.declared.Step.{Step}
 use Rattle.telnet.specs.Reader.{readOf}
 use Rattle.rules.specs.declared.Held.{Held}
 use Rattle.rules.specs.declared.Frame.{Frame}
+use Rattle.rules.specs.declared.Reader.{Reader}
+use Rattle.rules.specs.declared.Pad.{Pad}
 use Rattle.rules.specs.declared.Refusal.{Refusal}
 use Rattle.rules.specs.declared.Refusal.the-variants.{Taken}
 use Rattle.rules.specs.Session.{Screen, State, View, replyRoom, session, screen, state, view, viewOf}
 use Rattle.rules.specs.Refusal.{isTaken}
-use Rattle.rules.specs.Effect.{Effect, changedAll, spelledAll, quiet}
-use Rattle.rules.specs.Telnet.{heldAfter, hostData}
+use Rattle.rules.specs.Effect.{Effect, changedAll, spelledAll, changing, quiet}
+use Rattle.rules.specs.Telnet.{heldAfter, crAfter}
+use Rattle.rules.specs.Pad.{isX3, padAfter, response, passes}
 use Rattle.rules.specs.Operation.{applied, happening, hostByte, hostRefusal}
 use Rattle.rules.specs.Call.{host}
 use Rattle.rules.proofs.Sound.{Accepted, sound-of}
@@ -27,12 +31,15 @@ use Rattle.decide.specs.declared.decision.Decision.{Decision}
 use Rattle.decide.specs.declared.decision.Say.{Say}
 use Rattle.det.specs.declared.apply.Applied.{Applied}
 use Rattle.command.specs.inner.Frame.{Fits}
-use Rattle.decide.specs.Decision.{meant, shown, partsOf, Sendable, Decides}
+use Rattle.decide.specs.Decision.{meant, shown, partsOf, Sendable, Decides, endedDet}
 use Rattle.words.specs.Stored.{Emitted}
 use Rattle.reply.specs.inner.Reply.{Sayable}
 use Rattle.text.specs.Text.{Changes}
+use Rattle.det.specs.inner.Data.{dataEffect, detEffect}
 use Rattle.det.specs.inner.Apply.{Applies, Answerable}
 use Rattle.det.specs.inner.Take.{Accepts}
+use Rattle.words.proofs.Laws.{either}
+use Rattle.pad.specs.Host.{printsLf}
 use Rattle.text.proofs.TextLaws.{data-only}
 use Rattle.words.proofs.StoredLaws.{emitted-none}
 
@@ -68,25 +75,44 @@ unfolding changedAll spelledAll
 nothing-applies q = rw q (record { changes = record { frame = refl; characters = refl }; attributes = refl; replies = emitted-none })
 
 -- the events on which nothing is done: all but data, a negotiation and an end
-pub idle : (v : View) (h : Held) (e : Event) → OneOf (0 ∷ 3 ∷ 4 ∷ 6 ∷ 7 ∷ []) (tagOf the-type e) → happening v h e ≡ quiet v
-unfolding happening
-idle v h Nothing k = refl
-idle v h (Data b) k = absurd (miss (0 ∷ 3 ∷ 4 ∷ 6 ∷ 7 ∷ []) 1 tt k)
-idle v h (Negotiation verb option) k = absurd (miss (0 ∷ 3 ∷ 4 ∷ 6 ∷ 7 ∷ []) 2 tt k)
-idle v h (Begin option) k = refl
-idle v h (Sub option b) k = refl
-idle v h (End option) k = absurd (miss (0 ∷ 3 ∷ 4 ∷ 6 ∷ 7 ∷ []) 5 tt k)
-idle v h EndBare k = refl
-idle v h Lost k = refl
+pub idle : (v : View) (lf : Bool) (h : Held) (cr : Bool) (e : Event) → OneOf (0 ∷ 3 ∷ 4 ∷ 6 ∷ 7 ∷ []) (tagOf the-type e) → detEffect v lf h cr e ≡ quiet v
+unfolding detEffect
+idle v lf h cr Nothing k = refl
+idle v lf h cr (Data b) k = absurd (miss (0 ∷ 3 ∷ 4 ∷ 6 ∷ 7 ∷ []) 1 tt k)
+idle v lf h cr (Negotiation verb option) k = absurd (miss (0 ∷ 3 ∷ 4 ∷ 6 ∷ 7 ∷ []) 2 tt k)
+idle v lf h cr (Begin option) k = refl
+idle v lf h cr (Sub option b) k = refl
+idle v lf h cr (End option) k = absurd (miss (0 ∷ 3 ∷ 4 ∷ 6 ∷ 7 ∷ []) 5 tt k)
+idle v lf h cr EndBare k = refl
+idle v lf h cr Lost k = refl
+
+-- what is done on an event is what the rules say, but for the end of a message of option 30
+pub det-effect : (v : View) (r : Reader) (p : Pad) (e : Event) → ((option : ℕ) → e ≡ End option → isX3 option ≡ false)
+    → happening v r p e ≡ detEffect v (printsLf (p .values)) (r .held) (r .cr) e
+unfolding happening detEffect dataEffect endedDet passes response
+det-effect v r p Nothing u = refl
+det-effect v r p (Data b) u = refl
+det-effect v r p (Negotiation verb option) u = refl
+det-effect v r p (Begin option) u = refl
+det-effect v r p (Sub option b) u = refl
+det-effect v r p (End option) u = rw (u option refl)
+det-effect v r p EndBare u = refl
+det-effect v r p Lost u = refl
 
 -- ---- host data
 
-pub data-applies : (f : Frame) (byte : ℕ) {f′ : Frame} {b : Screen} {chars reply : List ℕ} {at : ℕ}
-    → Changes (hostData (view f (b .attrs)) byte) b f′ chars
-    → Applies (hostData (view f (b .attrs)) byte) b reply at (record { frame = f′; written = at }) (screen chars (b .attrs)) reply
+-- it keeps the attribute bytes, and draws no reply
+effect-only : (v : View) (lf cr : Bool) (b : ℕ) → let e = dataEffect v lf cr b in e ≡ changing (view (e .view .frame) (v .attrs)) (e .changes)
+unfolding dataEffect
+effect-only v lf cr b =
+    either (λ (e : Effect). e ≡ changing (view (e .view .frame) (v .attrs)) (e .changes)) _ (λ t. refl) (λ t. data-only v b)
+
+pub data-applies : (f : Frame) (lf cr : Bool) (byte : ℕ) {f′ : Frame} {b : Screen} {chars reply : List ℕ} {at : ℕ}
+    → Changes (dataEffect (view f (b .attrs)) lf cr byte) b f′ chars
+    → Applies (dataEffect (view f (b .attrs)) lf cr byte) b reply at (record { frame = f′; written = at }) (screen chars (b .attrs)) reply
 unfolding spelledAll
-data-applies f byte {b = b} k =
-    let only = data-only (view f (b .attrs)) byte in
+data-applies f lf cr byte {b = b} k =
+    let only = effect-only (view f (b .attrs)) lf cr byte in
     record {
       changes = k;
       attributes = ap (λ (e : Effect). e .view .attrs) (sym only);
@@ -126,10 +152,14 @@ module _ (s : State) (reply : List ℕ) (at : ℕ) (a : Accepts s reply at) wher
   module _ (byte : ℕ) {step : Step} (e : step ≡ readOf (s .session .reader .phase) byte) where
     -- what is done on the event that the byte tells
     abbrev happens : Effect
-    happens = happening (viewOf s) (s .session .reader .held) (step .event)
+    happens = happening (viewOf s) (s .session .reader) (s .session .pad) (step .event)
 
-    byte-is : hostByte s byte
-        ≡ applied s (record { phase = step .phase; held = heldAfter (s .session .reader .held) (step .event) }) happens
+    abbrev after : Reader
+    after =
+        let r = s .session .reader in
+        record { phase = step .phase; held = heldAfter (r .held) (step .event); cr = crAfter (r .cr) (step .event) }
+
+    byte-is : hostByte s byte ≡ applied s after (padAfter (s .session .frame) (s .session .pad) (step .event)) happens
     unfolding hostByte
     byte-is = rw (← e)
 
@@ -143,11 +173,11 @@ module _ (s : State) (reply : List ℕ) (at : ℕ) (a : Accepts s reply at) wher
 
     -- and what is done is what the byte does
     module _ {done : Applied} {b : Screen} {reply′ : List ℕ} (h : Applies happens (s .screen) reply at done b reply′) where
-      pub byte-state : {held : Held} → held ≡ heldAfter (s .session .reader .held) (step .event)
-          → state (session (done .frame) (record { phase = step .phase; held = held })) b ≡ (hostByte s byte) .state
+      pub byte-state : {r : Reader} → r ≡ after
+          → state (session (done .frame) r (padAfter (s .session .frame) (s .session .pad) (step .event))) b ≡ (hostByte s byte) .state
       byte-state q =
           rw (byte-is, q) (λ i. state
-          (session ((h .changes .frame) i) (record { phase = step .phase; held = heldAfter (s .session .reader .held) (step .event) }))
+          (session ((h .changes .frame) i) after (padAfter (s .session .frame) (s .session .pad) (step .event)))
           (screen ((h .changes .characters) i) ((h .attributes) i)))
 
       pub byte-replies : Emitted reply at ((hostByte s byte) .replies) reply′ (done .written)

@@ -1,19 +1,24 @@
 // Host bytes, a turn at a time: a stretch of data or of a subnegotiation's bytes, then a whole subnegotiation or one byte.
 ghost use mathlib.Core.Path.{_≡_};
+ghost use mathlib.Core.Bool.{Bool, false};
 ghost use Prim.Native.Nat.{_<_};
 ghost use lib.ListN.{length};
 ghost use Rattle.telnet.specs.declared.Phase.the-variants.{Rest, Inside};
-ghost use Rattle.rules.specs.Session.{Screen, session, state};
-ghost use Rattle.rules.specs.Operation.{happening};
+ghost use Rattle.rules.specs.Session.{Screen};
 ghost use Rattle.command.specs.Frame.{lent, seen};
+ghost use Rattle.det.specs.inner.Data.{detEffect};
 ghost use Rattle.det.specs.inner.Apply.{Answerable, Applies};
-ghost use Rattle.det.specs.inner.Take.{Accepts, Taking, QuietTurn, Tells};
+ghost use Rattle.det.specs.inner.Take.{AcceptsTurn, inMessage, toldOf, Tells, QuietTurns, Turns};
 use crate::apply::Applied;
 use crate::apply::apply;
+use crate::data::obey_data;
+use crate::data::take_bytes;
+use command::held::cr_after;
 use command::held::held_after;
 use command::held::held_of;
 use command::held::hold_all;
 use command::held::none;
+use command::number::X3;
 use decide::negotiate::negotiate;
 use decide::obey::decide_end;
 use rules::Frame;
@@ -26,36 +31,37 @@ use telnet::ahead::look_ahead;
 use telnet::read;
 use telnet::stretch::data_at;
 use telnet::stretch::payload_at;
-use text::data::host_text;
-use text::data::take_data;
 
-// Where some bytes leave the frame and the reader, where they end in the input, and where the next reply goes. The session is not
-// handed on whole: it will grow, and a turn is short.
+// Where some bytes leave the frame and the reader, what was told last, where they end in the input, and where the next reply goes. The
+// PAD is left to the caller, who tells it: it is large, and a turn is short.
 pub struct Turn {
     pub frame: Frame,
     pub reader: Reader,
+    pub event: Event,
     pub end: usize,
     pub written: usize,
 }
 
-// Does what an event asks for. `held` is what was held before it.
+// Does what an event asks for that ends no message of option 30. `held` and `cr` are as before it.
 fn happen(
     frame: Frame,
+    lf: bool,
     held: Held,
+    cr: bool,
     event: Event,
     chars: &mut [u8],
     attrs: &mut [u8],
     reply: &mut [u8],
     at: usize,
 ) -> Applied
-    requires { ⌜ Answerable (happening (seen frame attrs) held event) frame (lent chars attrs) (now reply) at ⌝ }
-    ensures { λ r. ⌜ Applies (happening (seen frame (attrs .entry)) held event)
+    requires { ⌜ Answerable (detEffect (seen frame attrs) lf held cr event) frame (lent chars attrs) (now reply) at ⌝ }
+    ensures { λ r. ⌜ Applies (detEffect (seen frame (attrs .entry)) lf held cr event)
         (lent (chars .entry) (attrs .entry)) (now (reply .entry)) at
         r (lent (chars .exit) (attrs .exit)) (now (reply .exit)) ⌝ }
 {
     match event {
         Event::Data(byte) => {
-            let after = take_data(frame, byte, chars, attrs);
+            let after = obey_data(frame, lf, cr, byte, chars, attrs);
             Applied {
                 frame: after,
                 written: at,
@@ -84,8 +90,30 @@ pub struct Told {
     pub next: usize,
 }
 
-// A whole subnegotiation tells its end; any other byte is asked of the reader.
+// The byte before `next`, asked of the reader.
+fn told_byte(reader: Reader, byte: u8, next: usize) -> Told
+    ensures { λ r. ⌜ r ≡ toldOf reader byte next ⌝ }
+{
+    let phase = reader.phase;
+    let step = read(phase, byte);
+    let event = step.event;
+    let after = step.phase;
+    let held = reader.held;
+    Told {
+        event: event,
+        held: held,
+        reader: Reader {
+            phase: after,
+            held: held_after(held, event),
+            cr: cr_after(reader.cr, event),
+        },
+        next: next,
+    }
+}
+
+// A whole subnegotiation tells its end, but one of option 30 goes a byte at a time; any other byte is asked of the reader.
 fn told_at(reader: Reader, input: &[u8], from: usize) -> Told
+    requires { ⌜ inMessage (reader .phase) ≡ false ⌝ }
     requires { ⌜ from < length (now input) ⌝ }
     ensures { λ r. ⌜ Tells reader (now (input .entry)) from r ⌝ }
 {
@@ -97,30 +125,22 @@ fn told_at(reader: Reader, input: &[u8], from: usize) -> Told
             start,
             end,
             next,
-        } => Told {
-            event: Event::End(option),
-            held: held_of(&input[start..end]),
-            reader: Reader {
-                phase: Phase::Rest,
-                held: none(),
-            },
-            next: next,
-        },
-        Ahead::Other => {
-            let step = read(phase, input[from]);
-            let event = step.event;
-            let after = step.phase;
-            let held = reader.held;
+        } => {
+            if option == X3 {
+                return told_byte(reader, input[from], from + 1);
+            }
             Told {
-                event: event,
-                held: held,
+                event: Event::End(option),
+                held: held_of(&input[start..end]),
                 reader: Reader {
-                    phase: after,
-                    held: held_after(held, event),
+                    phase: Phase::Rest,
+                    held: none(),
+                    cr: reader.cr,
                 },
-                next: from + 1,
+                next: next,
             }
         }
+        Ahead::Other => told_byte(reader, input[from], from + 1),
     }
 }
 
@@ -128,6 +148,7 @@ fn told_at(reader: Reader, input: &[u8], from: usize) -> Told
 fn take_told(
     frame: Frame,
     reader: Reader,
+    lf: bool,
     input: &[u8],
     from: usize,
     chars: &mut [u8],
@@ -135,22 +156,23 @@ fn take_told(
     reply: &mut [u8],
     at: usize,
 ) -> Turn
-    requires { ⌜ Accepts (state (session frame reader) (lent chars attrs)) (now reply) at ⌝ }
+    requires { ⌜ AcceptsTurn frame reader lf (lent chars attrs) (now reply) at ⌝ }
+    requires { ⌜ inMessage (reader .phase) ≡ false ⌝ }
     requires { ⌜ from < length (now input) ⌝ }
     ensures { λ r. ⌜ from < r .end ⌝ }
-    ensures { λ r. ⌜ Taking (state (session frame reader) (lent (chars .entry) (attrs .entry))) (now (input .entry)) from
-        (now (reply .entry)) at (state (session (r .frame) (r .reader)) (lent (chars .exit) (attrs .exit))) (r .end)
-        (now (reply .exit)) (r .written) ⌝ }
+    ensures { λ r. ⌜ Turns frame reader lf (lent (chars .entry) (attrs .entry)) (now (input .entry)) from
+        (now (reply .entry)) at r (lent (chars .exit) (attrs .exit)) (now (reply .exit)) ⌝ }
 {
     let told = told_at(reader, input, from);
     let held = told.held;
     let event = told.event;
-    let done = happen(frame, held, event, chars, attrs, reply, at);
+    let done = happen(frame, lf, held, reader.cr, event, chars, attrs, reply, at);
     let after = done.frame;
     let next = told.reader;
     Turn {
         frame: after,
         reader: next,
+        event: event,
         end: told.next,
         written: done.written,
     }
@@ -160,6 +182,7 @@ fn take_told(
 fn take_text(
     frame: Frame,
     reader: Reader,
+    lf: bool,
     input: &[u8],
     from: usize,
     chars: &mut [u8],
@@ -168,12 +191,13 @@ fn take_text(
 ) -> Turn
     requires { ⌜ reader .phase ≡ Rest ⌝ }
     requires { ⌜ from < length (now input) ⌝ }
-    ensures { λ r. ⌜ QuietTurn (state (session frame reader) (lent (chars .entry) (attrs .entry))) (now (input .entry)) from at
+    ensures { λ r. ⌜ QuietTurns frame reader lf (lent (chars .entry) (attrs .entry)) (now (input .entry)) from at
         r (lent (chars .exit) (attrs .entry)) ⌝ }
 {
     let stretch = data_at(input, from);
     let end = stretch.end;
-    let after = host_text(frame, &input[from..end], chars, attrs);
+    let done = take_bytes(frame, lf, reader.cr, &input[from..end], chars, attrs);
+    let after = done.frame;
     let next = stretch.phase;
     let held = reader.held;
     Turn {
@@ -181,7 +205,9 @@ fn take_text(
         reader: Reader {
             phase: next,
             held: held,
+            cr: done.cr,
         },
+        event: Event::Nothing,
         end: stretch.next,
         written: at,
     }
@@ -197,8 +223,9 @@ fn take_payload(
     at: usize,
 ) -> Turn
     requires { ⌜ reader .phase ≡ Inside option ⌝ }
+    requires { ⌜ inMessage (reader .phase) ≡ false ⌝ }
     requires { ⌜ from < length (now input) ⌝ }
-    ensures { λ r. ⌜ ((b : Screen) → QuietTurn (state (session frame reader) b) (now (input .entry)) from at r b) ⌝ }
+    ensures { λ r. ⌜ ((lf : Bool) (b : Screen) → QuietTurns frame reader lf b (now (input .entry)) from at r b) ⌝ }
 {
     let stretch = payload_at(option, input, from);
     let end = stretch.end;
@@ -210,7 +237,9 @@ fn take_payload(
         reader: Reader {
             phase: next,
             held: after,
+            cr: reader.cr,
         },
+        event: Event::Nothing,
         end: stretch.next,
         written: at,
     }
@@ -220,23 +249,26 @@ fn take_payload(
 fn take_stretch(
     frame: Frame,
     reader: Reader,
+    lf: bool,
     input: &[u8],
     from: usize,
     chars: &mut [u8],
     attrs: &[u8],
     at: usize,
 ) -> Turn
+    requires { ⌜ inMessage (reader .phase) ≡ false ⌝ }
     requires { ⌜ from < length (now input) ⌝ }
-    ensures { λ r. ⌜ QuietTurn (state (session frame reader) (lent (chars .entry) (attrs .entry))) (now (input .entry)) from at
+    ensures { λ r. ⌜ QuietTurns frame reader lf (lent (chars .entry) (attrs .entry)) (now (input .entry)) from at
         r (lent (chars .exit) (attrs .entry)) ⌝ }
 {
     let phase = reader.phase;
     match phase {
-        Phase::Rest => take_text(frame, reader, input, from, chars, attrs, at),
+        Phase::Rest => take_text(frame, reader, lf, input, from, chars, attrs, at),
         Phase::Inside(option) => take_payload(option, frame, reader, input, from, at),
         _ => Turn {
             frame: frame,
             reader: reader,
+            event: Event::Nothing,
             end: from,
             written: at,
         },
@@ -247,6 +279,7 @@ fn take_stretch(
 pub(crate) fn take_turn(
     frame: Frame,
     reader: Reader,
+    lf: bool,
     input: &[u8],
     from: usize,
     chars: &mut [u8],
@@ -254,14 +287,14 @@ pub(crate) fn take_turn(
     reply: &mut [u8],
     at: usize,
 ) -> Turn
-    requires { ⌜ Accepts (state (session frame reader) (lent chars attrs)) (now reply) at ⌝ }
+    requires { ⌜ AcceptsTurn frame reader lf (lent chars attrs) (now reply) at ⌝ }
+    requires { ⌜ inMessage (reader .phase) ≡ false ⌝ }
     requires { ⌜ from < length (now input) ⌝ }
     ensures { λ r. ⌜ from < r .end ⌝ }
-    ensures { λ r. ⌜ Taking (state (session frame reader) (lent (chars .entry) (attrs .entry))) (now (input .entry)) from
-        (now (reply .entry)) at (state (session (r .frame) (r .reader)) (lent (chars .exit) (attrs .exit))) (r .end)
-        (now (reply .exit)) (r .written) ⌝ }
+    ensures { λ r. ⌜ Turns frame reader lf (lent (chars .entry) (attrs .entry)) (now (input .entry)) from
+        (now (reply .entry)) at r (lent (chars .exit) (attrs .exit)) (now (reply .exit)) ⌝ }
 {
-    let stretch = take_stretch(frame, reader, input, from, chars, attrs, at);
+    let stretch = take_stretch(frame, reader, lf, input, from, chars, attrs, at);
     let after = stretch.frame;
     let stands = stretch.reader;
     let next = stretch.end;
@@ -269,9 +302,10 @@ pub(crate) fn take_turn(
         return Turn {
             frame: after,
             reader: stands,
+            event: Event::Nothing,
             end: next,
             written: at,
         };
     }
-    take_told(after, stands, input, next, chars, attrs, reply, at)
+    take_told(after, stands, lf, input, next, chars, attrs, reply, at)
 }

@@ -1,8 +1,9 @@
 // Keys that the edit line takes.
 ghost use mathlib.Core.Path.{_≡_};
+ghost use Rattle.words.specs.Stored.{Emitted};
 ghost use Rattle.rules.specs.Refusal.{verdict};
 ghost use Rattle.rules.specs.Telnet.{hostText};
-ghost use Rattle.rules.specs.Pad.{takesKey, lineTests, padTyped, echoedAt};
+ghost use Rattle.rules.specs.Pad.{takesKey, lineTests, padTyped, sentAt, echoedAt};
 ghost use Rattle.command.specs.Frame.{lent, seen};
 ghost use Rattle.text.specs.Text.{Changes};
 ghost use Rattle.pad.specs.Line.{textOf};
@@ -15,6 +16,7 @@ use pad::echo::echo_of;
 use pad::key::line_after;
 use pad::key::overfills;
 use pad::line::EditLine;
+use pad::out::write_out;
 use rules::Frame;
 use rules::Pad;
 use rules::Refusal;
@@ -71,6 +73,15 @@ pub fn echo_key(frame: Frame, pad: Pad, code: u8, chars: &mut [u8], attrs: &[u8]
     let line = pad.line;
     let echo = echo_of(values, line, code);
     write_echo(frame, echo, line, chars, attrs)
+}
+
+// What goes out at a key, written from the reply's start: its length.
+pub fn send_line(pad: Pad, code: u8, reply: &mut [u8]) -> usize
+    ensures { λ r. ⌜ Emitted (now (reply .entry)) 0 (sentAt pad code) (now (reply .exit)) r ⌝ }
+{
+    let values = pad.values;
+    let line = pad.line;
+    write_out(values, line, code, reply)
 }
 
 // The PAD after a key.

@@ -16,7 +16,7 @@ use Rattle.pad.specs.Message.{idleMessage, begun, afterByte, ended}
 use Rattle.pad.specs.Response.{responseOf}
 use Rattle.pad.specs.Keys.{overfills, lineAfter, outOf}
 use Rattle.pad.specs.Echo.{echoOf}
-use Rattle.pad.specs.Host.{printsLf, passedOver}
+use Rattle.pad.specs.Host.{printsLf}
 use Rattle.rules.specs.declared.Frame.{Frame}
 use Rattle.rules.specs.declared.Pad.{Pad}
 use Rattle.rules.specs.Number.{x3Option}
@@ -98,6 +98,10 @@ typedTo v p k =
 
 -- ---- host data
 
--- While the line takes the keys, an LF right after a CR is passed over, unless CR LF is printed as such.
+-- CR LF is printed as CR while the line takes the keys, unless parameter 13 has it printed as such
+abbrev pub joins : Frame → Pad → Bool
+joins f p = lineTakesKeys f && not (printsLf (p .values))
+
+-- then an LF right after a CR is passed over
 unfoldable pub passes : Frame → Pad → Bool → ℕ → Bool
-passes f p cr b = lineTakesKeys f && passedOver (printsLf (p .values)) cr b
+passes f p cr b = joins f p && (cr && eqb b 10)

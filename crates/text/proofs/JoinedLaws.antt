@@ -1,6 +1,6 @@
 -- Laws of data in which an LF is passed over: what is done so far is what the bytes so far do.
 use mathlib.Core.Path.{_≡_, refl, sym, ap, _∙_}
-use mathlib.Core.Bool.{Bool, true, false}
+use mathlib.Core.Bool.{Bool, true, false, _&&_}
 use mathlib.Core.List.{List, [], _∷_, _++_, append-nil}
 use Prim.Native.Nat.{ℕ, suc, _+_, _-_, _≤_, _<_}
 use native.Mathlib.Numerals.{add-one}
@@ -10,7 +10,6 @@ use lib.ListN.{length, getD, take}
 use lib.Seq.{take-suc, take-all}
 use Rattle.words.specs.Words.{if_then_else_}
 use Rattle.words.proofs.Laws.{either, true-or-false}
-use Rattle.pad.specs.Host.{passedOver}
 use Rattle.rules.specs.declared.Frame.{Frame}
 use Rattle.rules.specs.Session.{screen, view}
 use Rattle.rules.specs.Effect.{changedAll}
@@ -25,11 +24,11 @@ ends-next cr [] b = refl
 ends-next cr (x ∷ xs) b = ends-next (eqb x 13) xs b
 
 joined-next : (cr : Bool) (xs : List ℕ) (b : ℕ)
-    → joined cr (xs ++ (b ∷ [])) ≡ joined cr xs ++ (if passedOver false (endsInCr cr xs) b then [] else b ∷ [])
+    → joined cr (xs ++ (b ∷ [])) ≡ joined cr xs ++ (if endsInCr cr xs && eqb b 10 then [] else b ∷ [])
 unfolding joined endsInCr
 joined-next cr [] b = refl
 joined-next cr (x ∷ xs) b =
-    true-or-false (passedOver false cr x) (λ t. rw t (joined-next (eqb x 13) xs b))
+    true-or-false (cr && eqb x 10) (λ t. rw t (joined-next (eqb x 13) xs b))
     (λ f. rw f (ap (λ l. x ∷ l) (joined-next (eqb x 13) xs b)))
 
 -- the first `at` bytes are done
@@ -44,7 +43,7 @@ joining-none = record { done = record { frame = refl; characters = refl }; ends 
 module _ {attrs bytes : List ℕ} {cr : Bool} {f₀ : Frame} {chars₀ : List ℕ} {at : ℕ} {last : Bool} {f : Frame} {chars : List ℕ}
     (k : Joining attrs bytes cr f₀ chars₀ at last f chars) where
   -- the next is passed over
-  pub joining-passed : at < length bytes → passedOver false last (getD bytes at 0) ≡ true
+  pub joining-passed : at < length bytes → (last && eqb (getD bytes at 0) 10) ≡ true
       → Joining attrs bytes cr f₀ chars₀ (at + 1) (eqb (getD bytes at 0) 13) f chars
   joining-passed h p =
       let b = getD bytes at 0 in
@@ -55,7 +54,7 @@ module _ {attrs bytes : List ℕ} {cr : Bool} {f₀ : Frame} {chars₀ : List �
       }
 
   -- or it is obeyed
-  pub joining-more : at < length bytes → passedOver false last (getD bytes at 0) ≡ false → {f′ : Frame} {chars′ : List ℕ}
+  pub joining-more : at < length bytes → (last && eqb (getD bytes at 0) 10) ≡ false → {f′ : Frame} {chars′ : List ℕ}
       → Changes (hostData (view f attrs) (getD bytes at 0)) (screen chars attrs) f′ chars′
       → Joining attrs bytes cr f₀ chars₀ (at + 1) (eqb (getD bytes at 0) 13) f′ chars′
   joining-more h p one =

@@ -30,7 +30,7 @@ data-only v b =
 -- ---- some bytes
 
 -- it keeps the attribute bytes
-text-keeps : (v : View) (xs : List ℕ) → (hostText v xs) .view .attrs ≡ v .attrs
+pub text-keeps : (v : View) (xs : List ℕ) → (hostText v xs) .view .attrs ≡ v .attrs
 unfolding hostText
 text-keeps v [] = refl
 text-keeps v (x ∷ xs) = text-keeps ((hostData v x) .view) xs ∙ ap (λ (e : Effect). e .view .attrs) (data-only v x)

@@ -1,11 +1,10 @@
 -- What becomes of the lent characters, and host data in which an LF is passed over.
 use mathlib.Core.Path.{_≡_}
-use mathlib.Core.Bool.{Bool, false}
+use mathlib.Core.Bool.{Bool, _&&_}
 use mathlib.Core.List.{List, [], _∷_}
 use Prim.Native.Nat.{ℕ}
 use lib.Dec.{eqb}
 use Rattle.words.specs.Words.{if_then_else_}
-use Rattle.pad.specs.Host.{passedOver}
 use Rattle.rules.specs.declared.Frame.{Frame}
 use Rattle.rules.specs.Session.{Screen}
 use Rattle.rules.specs.Effect.{Effect, changedAll}
@@ -20,7 +19,7 @@ unfoldable pub joined : Bool → List ℕ → List ℕ
 joined cr [] = []
 joined cr (b ∷ bs) =
     let rest = joined (eqb b 13) bs in
-    if passedOver false cr b then rest else b ∷ rest
+    if cr && eqb b 10 then rest else b ∷ rest
 
 -- is the last byte of data a CR, these having come after it
 unfoldable pub endsInCr : Bool → List ℕ → Bool

@@ -1,11 +1,22 @@
 // Host data while CR LF is printed as CR, and whether data ends in a CR.
 ghost use mathlib.Core.Path.{_≡_};
+ghost use mathlib.Core.Bool.{_&&_};
+ghost use lib.Dec.{eqb};
 ghost use Rattle.rules.specs.Telnet.{hostText};
 ghost use Rattle.command.specs.Frame.{lent, seen};
 ghost use Rattle.text.specs.Text.{Changes, joined, endsInCr};
 use crate::data::take_data;
-use pad::host::is_passed_over;
 use rules::Frame;
+
+// Is an LF right after a CR?
+fn is_joined(cr: bool, byte: u8) -> bool
+    ensures { λ r. ⌜ r ≡ (cr && eqb byte 10) ⌝ }
+{
+    if cr {
+        return byte == 10;
+    }
+    false
+}
 
 // Data, a byte at a time: an LF right after a CR is passed over. `cr` tells whether a CR came last before it.
 pub fn joined_text(frame: Frame, cr: bool, bytes: &[u8], chars: &mut [u8], attrs: &[u8]) -> Frame
@@ -17,7 +28,7 @@ pub fn joined_text(frame: Frame, cr: bool, bytes: &[u8], chars: &mut [u8], attrs
     let mut at = 0;
     while at < bytes.len() {
         let byte = bytes[at];
-        let passed = is_passed_over(false, last, byte);
+        let passed = is_joined(last, byte);
         last = byte == 13;
         at += 1;
         if passed {

@@ -9,7 +9,7 @@ use Rattle.pad.specs.Message.{messages}
 use Rattle.pad.specs.Response.{responses}
 use Rattle.pad.specs.Keys.{keys}
 use Rattle.pad.specs.Echo.{echoes}
-use Rattle.pad.specs.Host.{printsLf, passedOver}
+use Rattle.pad.specs.Host.{printsLf}
 use Rattle.screen.specs.Words.{firstOf, lastOf}
 use Rattle.screen.specs.Attributes.{protectedAt}
 use Rattle.screen.specs.Fields.{startsAt, opensAt, fieldStart, fieldEnd, spanEnd}
@@ -45,7 +45,7 @@ use Rattle.rules.specs.Operation.{happening, hostByte, running, unless, 
 use Rattle.rules.specs.Call.{called, answersOf, stateAfter, executedBy, executedOf}
 
 unfoldable pub computing : ℕ
-unfolding bit parameters lines messages responses keys echoes printsLf passedOver reader doubled subnegotiation negotiation firstOf lastOf tabulate protectedAt startsAt opensAt fieldStart fieldEnd spanEnd
+unfolding bit parameters lines messages responses keys echoes printsLf reader doubled subnegotiation negotiation firstOf lastOf tabulate protectedAt startsAt opensAt fieldStart fieldEnd spanEnd
     nextOpen deleted inserted shifted onPart erased formatted takes allPrintable padOk sessionOk ownMap verdict sizeTests stateTests rows
     rowIn meaning reaches valueFault faultOf changed changedAll spelled spelledAll nextCell homeCell backTabCell firstFieldCell
     nextFieldCell previousOpenCell destination holding heldAfter crAfter optionOf isOn accepts turned switchedOn switchedOff negotiated hostCharacter hostCharacters

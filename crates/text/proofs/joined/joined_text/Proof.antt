@@ -19,13 +19,13 @@ joined-text-spec =
     (λ c. search needs) (λ c κs. search needs) (λ c. search needs) (λ c. search needs)
     (λ c. let p = c .before in
     let l = p .before .before in
-    (joining-passed (l .before .loop .inv .0) (l .loop-test .taken) (sym (p .is-passed-over .ensures) ∙ c .if1 .taken), l .before .loop .inv .1))
+    (joining-passed (l .before .loop .inv .0) (l .loop-test .taken) (sym (p .is-joined .ensures) ∙ c .if1 .taken), l .before .loop .inv .1))
     (λ c κs. search needs) (λ c. search needs)
     (λ c. let d = c .before .before in
     let i = d .before .before in
     let p = i .before in
     let l = p .before .before in (
-      joining-more (l .before .loop .inv .0) (l .loop-test .taken) (sym (p .is-passed-over .ensures) ∙ i .if1 .left) (d .take-data .ensures),
+      joining-more (l .before .loop .inv .0) (l .loop-test .taken) (sym (p .is-joined .ensures) ∙ i .if1 .left) (d .take-data .ensures),
       search needs,
     ))
     (λ c. search needs)

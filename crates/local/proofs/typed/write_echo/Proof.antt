@@ -1,0 +1,35 @@
+-- `write_echo` meets its contract. In the loop, what is done so far is what the bytes so far do.
+use mathlib.Core.Path.{_≡_, refl}
+use Prim.Native.Nat.{_-_}
+use native.Mathlib.Omega.{arith}
+use lib.ListN.{length}
+use borrow.Author.Needs.{needs}
+use Rattle.pad.specs.Line.{textOf}
+use Rattle.pad.specs.Echo.{bytesOf}
+use Rattle.text.specs.inner.Text.{Texted}
+use Rattle.text.proofs.TextLaws.{texted-none, texted-more, texted-all}
+use Rattle.local.proofs.typed.write_echo.Statement.{statement}
+use Rattle.local.proofs.typed.write_echo.Tie as tie
+
+pub write-echo-spec : {M : Type 1} → statement M
+write-echo-spec =
+    tie.close
+    (tie.spec
+    (λ echo line chars₀ attrs count now₀ i₀ chars now i.
+    Texted attrs (bytesOf echo (textOf line)) now₀ chars₀ i now chars × (length chars ≡ length chars₀))
+    (λ echo line chars₀ attrs count now₀ i₀ chars now i. count - i)
+    (λ c κs. search needs)
+    (λ c. let a = c .before .before .before .args in (texted-none _ (bytesOf (a .echo) (textOf (a .line))) _ _, refl))
+    (λ c κs. search needs) (λ c κs. search needs) (λ c. search needs) (λ c. search needs)
+    (λ c. let d = c .before .before in
+    let e = d .before .before in
+    let l = e .before .before in
+    let a = l .before .before .before .before .args in (
+      texted-more (bytesOf (a .echo) (textOf (a .line))) _ (l .loop .i) (l .loop .inv .0) (omega (arith, e .before .loop-test .taken, l .before .echo-length .ensures))
+          (rw (e .echo-at .ensures) at (d .take-data .ensures)),
+      search needs,
+    ))
+    (λ c. search needs)
+    (λ c. let l = c .before in
+    let a = l .before .before .before .before .args in
+    texted-all (bytesOf (a .echo) (textOf (a .line))) _ (l .loop .i) (l .loop .inv .0) (omega (arith, c .loop-test .left, l .before .echo-length .ensures))))

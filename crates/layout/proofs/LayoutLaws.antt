@@ -1,0 +1,177 @@
+-- Laws of the layout: a session and its bytes determine each other.
+use Rattle.layout.proofs.Kit.{_≡_, refl, sym, subst, _∙_, Bool, true, false, _&&_, _||_, List, [], _∷_, _++_, ℕ, zero, suc, _+_, arith, eqb, leb, length, leb-true, eqb-true, eqb-false, le-leb, tabulate, true-or-false, and-left, and-right, tabulated}
+use Rattle.telnet.specs.declared.Verb.{Verb}
+use Rattle.telnet.specs.declared.Verb.the-variants.{Will, Wont, Do, Dont}
+use Rattle.telnet.specs.declared.Phase.{Phase}
+use Rattle.telnet.specs.declared.Phase.the-variants.{Rest, Iac, Negotiating, Opening, OpeningIac, Inside, InsideIac}
+use Rattle.pad.specs.declared.message.Stage.{Stage}
+use Rattle.pad.specs.declared.message.Stage.the-variants.{Code, Parameter, Value}
+use Rattle.pad.specs.Parameters.{parameters}
+use Rattle.pad.specs.Message.{messages}
+use Rattle.pad.specs.Line.{lines}
+use Rattle.rules.specs.declared.Session.{Session}
+use Rattle.rules.specs.Session.{fresh}
+use Rattle.layout.specs.Layout.{sessionLength, version, bitOf, verbNumber, phaseBytes, stageAt, stageBytes, encoded, byteAt, bytesFrom, isFlag, hasFlags, isPhase, isStage, hasPlaces, isSession, phaseOf, stageOf, frameIn, readerIn, padIn, decoded, layouts}
+
+-- n bytes are those that are read from them
+pub read-whole : (xs : List ℕ) (n : ℕ) → length xs ≡ n → xs ≡ tabulate (byteAt xs) 0 n
+read-whole xs n e = tabulated (byteAt xs) xs n 0 e (λ k h. refl)
+
+pub six : (xs : List ℕ) → length xs ≡ 6
+    → xs ≡ byteAt xs 0 ∷ byteAt xs 1 ∷ byteAt xs 2 ∷ byteAt xs 3 ∷ byteAt xs 4 ∷ byteAt xs 5 ∷ []
+unfolding tabulate
+six xs e = read-whole xs 6 e
+
+-- ---- from a session to its bytes and back
+
+-- a flag is read back, and is one
+flag-back : (b : Bool) → (eqb (bitOf b) 1 ≡ b) × (isFlag (bitOf b) ≡ true)
+flag-back true = (refl, refl)
+flag-back false = (refl, refl)
+
+-- so is where the reader stands
+phase-back : (p : Phase) → let at = phaseBytes p in (phaseOf (at .number) (at .option) ≡ p) × (isPhase (at .number) (at .option) ≡ true)
+unfolding layouts
+phase-back Rest = (refl, refl)
+phase-back Iac = (refl, refl)
+phase-back (Negotiating Will) = (refl, refl)
+phase-back (Negotiating Wont) = (refl, refl)
+phase-back (Negotiating Do) = (refl, refl)
+phase-back (Negotiating Dont) = (refl, refl)
+phase-back Opening = (refl, refl)
+phase-back OpeningIac = (refl, refl)
+phase-back (Inside option) = (refl, refl)
+phase-back (InsideIac option) = (refl, refl)
+
+-- and what is next in a message
+stage-back : (s : Stage) → let at = stageBytes s in (stageOf (at .number) (at .code) (at .parameter) ≡ s) × (isStage (at .number) (at .code) (at .parameter) ≡ true)
+unfolding layouts
+stage-back Code = (refl, refl)
+stage-back (Parameter code) = (refl, refl)
+stage-back (Value code parameter) = (refl, refl)
+
+-- what every Rattle value of the type has: its arrays have their lengths
+pub record Sized (s : Session) : Type 0 where
+  pub held : length (s .reader .held .bytes) ≡ 6
+  pub values : length (s .pad .values .held) ≡ 28
+  pub line : length (s .pad .line .bytes) ≡ 128
+  pub copy : length (s .pad .message .copy .held) ≡ 28
+
+module _ (s : Session) (z : Sized s) where
+  -- a session's bytes are 206
+  pub encoded-length : length (encoded s) ≡ sessionLength
+  unfolding encoded tabulate
+  encoded-length =
+      rw (read-whole (s .reader .held .bytes) 6 (z .held), read-whole (s .pad .values .held) 28 (z .values), read-whole (s .pad .line .bytes) 128 (z .line), read-whole (s .pad .message .copy .held) 28 (z .copy))
+
+  -- they are those of a session
+  pub encoded-session : isSession (encoded s) ≡ true
+  unfolding isSession encoded tabulate
+  encoded-session =
+      rw (encoded-length, read-whole (s .reader .held .bytes) 6 (z .held), read-whole (s .pad .values .held) 28 (z .values), read-whole (s .pad .line .bytes) 128 (z .line), flag-back (s .frame .det) .1, flag-back (s .frame .x3) .1, flag-back (s .frame .suppressed) .1, flag-back (s .reader .cr) .1, phase-back (s .reader .phase) .1, stage-back (s .pad .message .stage) .1)
+
+  -- and give it back
+  pub decoded-encoded : decoded (encoded s) ≡ s
+  unfolding decoded encoded frameIn readerIn padIn tabulate
+  decoded-encoded =
+      let held = read-whole (s .reader .held .bytes) 6 (z .held) in
+      let values = read-whole (s .pad .values .held) 28 (z .values) in
+      let line = read-whole (s .pad .line .bytes) 128 (z .line) in
+      let copy = read-whole (s .pad .message .copy .held) 28 (z .copy) in
+      rw (flag-back (s .frame .det) .0, flag-back (s .frame .x3) .0, flag-back (s .frame .suppressed) .0, phase-back (s .reader .phase) .0, held, values, line, copy, flag-back (s .reader .cr) .0, stage-back (s .pad .message .stage) .0)
+      (rw (← held, ← values, ← line, ← copy))
+
+-- ---- from bytes to a session and back
+
+-- every number up to n passes a test
+abbrev allUpTo : (ℕ → Bool) → ℕ → Bool
+allUpTo test zero = test 0
+allUpTo test (suc n) = test (suc n) && allUpTo test n
+
+-- so does each of them
+up-to : (test : ℕ → Bool) (n k : ℕ) → allUpTo test n ≡ true → leb k n ≡ true → test k ≡ true
+up-to test zero k h e = let z : k ≡ 0 = omega (arith, leb-true k 0 e) in rw z h
+up-to test (suc n) k h e =
+    true-or-false (eqb k (suc n)) (λ t. rw (eqb-true k (suc n) t) (and-left (test (suc n)) _ h))
+    (λ f. up-to test n k (and-right (test (suc n)) _ h) (le-leb k n (omega (arith, leb-true k (suc n) e, eqb-false k (suc n) f))))
+
+-- a flag is written back
+flag-kept : (n : ℕ) → isFlag n ≡ true → bitOf (eqb n 1) ≡ n
+flag-kept n e = eqb-true _ _ (up-to (λ k. eqb (bitOf (eqb k 1)) k) 1 n refl e)
+
+-- so is where the reader stands
+module _ (n o : ℕ) (h : isPhase n o ≡ true) where
+  known : leb n 9 ≡ true
+  known = and-left (leb n 9) _ h
+
+  number-kept : (phaseBytes (phaseOf n o)) .number ≡ n
+  unfolding layouts
+  number-kept = eqb-true _ _ (up-to (λ k. eqb ((phaseBytes (phaseOf k o)) .number) k) 9 n refl known)
+
+  option-kept : (phaseBytes (phaseOf n o)) .option ≡ o
+  unfolding layouts
+  option-kept =
+      true-or-false (leb 8 n)
+      (λ t.
+      true-or-false (eqb n 8) (λ q. rw (eqb-true n 8 q))
+      (λ q. let nine : n ≡ 9 = omega (arith, leb-true 8 n t, leb-true n 9 known, eqb-false n 8 q) in rw nine))
+      (λ f.
+      let outside : eqb ((phaseBytes (phaseOf n o)) .option) 0 ≡ true = rw f at (up-to (λ k. leb 8 k || eqb ((phaseBytes (phaseOf k o)) .option) 0) 9 n refl known) in
+      eqb-true _ 0 outside ∙ sym (eqb-true o 0 (rw f at (and-right (leb n 9) _ h))))
+
+-- and what is next in a message
+stage-kept : (n c p : ℕ) → isStage n c p ≡ true → stageBytes (stageOf n c p) ≡ stageAt n c p
+unfolding layouts
+stage-kept n c p h =
+    true-or-false (eqb n 0)
+    (λ t. let both : (eqb c 0 && eqb p 0) ≡ true = rw t at h in
+    rw (t, eqb-true n 0 t, eqb-true c 0 (and-left _ _ both), eqb-true p 0 (and-right (eqb c 0) _ both)))
+    (λ f. true-or-false (eqb n 1)
+    (λ t. rw (f, t, eqb-true n 1 t, eqb-true p 0 (rw (f, t) at h)))
+    (λ g. rw (f, g, eqb-true n 2 (rw (f, g) at h))))
+
+module _ (b : List ℕ) (h : isSession b ≡ true) where
+  abbrev at : ℕ → ℕ
+  at = byteAt b
+
+  -- bytes that are a session are 206
+  pub session-length : length b ≡ sessionLength
+  unfolding isSession
+  session-length = eqb-true _ _ (and-left (eqb (length b) sessionLength) _ h)
+
+  -- what else was tested
+  past-length : (eqb (at 0) version && (hasFlags b && hasPlaces b)) ≡ true
+  unfolding isSession
+  past-length = and-right (eqb (length b) sessionLength) _ h
+
+  version-right : at 0 ≡ version
+  version-right = eqb-true _ _ (and-left (eqb (at 0) version) _ past-length)
+
+  flags : (isFlag (at 5) ≡ true) × (isFlag (at 6) ≡ true) × (isFlag (at 7) ≡ true) × (isFlag (at 17) ≡ true)
+  flags =
+      let all = and-left (hasFlags b) _ (and-right (eqb (at 0) version) _ past-length) in
+      let two = and-right (isFlag (at 5)) _ all in
+      let three = and-right (isFlag (at 6)) _ two in
+      (and-left _ _ all, and-left _ _ two, and-left _ _ three, and-right (isFlag (at 7)) _ three)
+
+  places : hasPlaces b ≡ true
+  places = and-right (hasFlags b) _ (and-right (eqb (at 0) version) _ past-length)
+
+  -- and those of the session read from them
+  pub encoded-decoded : encoded (decoded b) ≡ b
+  unfolding encoded decoded frameIn readerIn padIn tabulate
+  encoded-decoded =
+      let phase = and-left (isPhase (at 8) (at 9)) _ places in
+      let stage = and-right (isPhase (at 8) (at 9)) _ places in
+      rw (flag-kept (at 5) (flags .0), flag-kept (at 6) (flags .1), flag-kept (at 7) (flags .2), flag-kept (at 17) (flags .3), number-kept (at 8) (at 9) phase, option-kept (at 8) (at 9) phase, stage-kept (at 175) (at 176) (at 177) stage)
+      (subst (λ (v : ℕ). v ∷ bytesFrom b 1 205 ≡ b) version-right (sym (read-whole b 206 session-length)))
+
+-- ---- open
+
+-- The session that an open returns, refused or not, is one that a caller can keep.
+pub fresh-sized : (m n : ℕ) → Sized (fresh m n)
+unfolding parameters messages lines
+fresh-sized m n = record { held = refl; values = refl; line = refl; copy = refl }
+
+pub refused-open : isSession (encoded (fresh 0 0)) ≡ true
+refused-open = encoded-session (fresh 0 0) (fresh-sized 0 0)

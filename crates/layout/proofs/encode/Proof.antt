@@ -1,0 +1,19 @@
+-- `encode` meets its contract: the parts one behind the other, where the length is right.
+use Rattle.layout.proofs.Kit.{needs}
+use Rattle.layout.proofs.CopyLaws.{session-stored, session-left}
+use Rattle.layout.proofs.encode.Statement.{statement}
+use Rattle.layout.proofs.encode.Tie as tie
+
+left : tie.Need-returns
+left c = session-left _ _ (c .if1 .taken)
+
+written : tie.Need-returns-2
+written c =
+    let p = c .before .before in
+    let r = p .before .before .before .before .before in
+    let f = r .before .before .before .before .before in
+    let t = f .before .before .before in
+    session-stored (t .before .before .args .session) (t .if1 .left) (f .put-frame .ensures) (r .put-reader .ensures) (p .put-pad .ensures)
+
+pub encode-spec : {M : Type 1} → statement M
+encode-spec = tie.close (tie.spec left (search needs) (search needs) (search needs) (search needs) written)

@@ -1,0 +1,17 @@
+// The one loop: bytes copied in a row, which the compiler turns into one move of them all.
+ghost use mathlib.Core.Path.{_≡_};
+ghost use Prim.Native.Nat.{_+_, _≤_};
+ghost use lib.ListN.{length};
+ghost use lib.Seq.{sets};
+
+// Copies a part to where it stands in the whole, from `at` on.
+pub(crate) fn copy(part: &[u8], whole: &mut [u8], at: usize)
+    requires { ⌜ at + length (now part) ≤ length (now whole) ⌝ }
+    ensures { λ _. ⌜ now (whole .exit) ≡ sets (now (whole .entry)) at (now (part .entry)) ⌝ }
+{
+    let mut i = 0;
+    while i < part.len() {
+        whole[at + i] = part[i];
+        i += 1;
+    }
+}

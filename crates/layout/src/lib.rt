@@ -1,0 +1,66 @@
+// A session as a byte string: 206 bytes that the caller keeps. The table at the head of specs/Layout.antt says what stands where.
+// Nothing here asks anything of its caller.
+ghost use mathlib.Core.Path.{_≡_};
+ghost use Rattle.layout.specs.Layout.{isSession, decoded, stored};
+
+mod copy;
+mod number;
+mod read;
+mod test;
+mod write;
+
+use read::padded;
+use read::session_in;
+use rules::Session;
+use test::has_flags;
+use test::has_places;
+use write::put_frame;
+use write::put_pad;
+use write::put_reader;
+
+pub const SESSION_LENGTH: usize = 206;
+
+pub(crate) const VERSION: u8 = 2;
+
+// Are the bytes those of a session?
+pub fn is_session(bytes: &[u8]) -> bool
+    ensures { λ r. ⌜ r ≡ isSession (now (bytes .entry)) ⌝ }
+{
+    if bytes.len() != SESSION_LENGTH {
+        return false;
+    }
+    if bytes[0] != VERSION {
+        return false;
+    }
+    let flags = has_flags(bytes);
+    if !flags {
+        return false;
+    }
+    has_places(bytes)
+}
+
+// The session of these bytes. Whether they are one is for `is_session` to say: this takes any, and reads 0 beyond their end.
+pub fn decode(bytes: &[u8]) -> Session
+    ensures { λ r. ⌜ r ≡ decoded (now (bytes .entry)) ⌝ }
+{
+    if SESSION_LENGTH <= bytes.len() {
+        return session_in(bytes);
+    }
+    let whole = padded(bytes);
+    session_in(&whole)
+}
+
+// Writes the session's bytes, where there is room for them and no more.
+pub fn encode(session: Session, bytes: &mut [u8])
+    ensures { λ _. ⌜ now (bytes .exit) ≡ stored session (now (bytes .entry)) ⌝ }
+{
+    if bytes.len() != SESSION_LENGTH {
+        return;
+    }
+    let frame = session.frame;
+    put_frame(frame, bytes);
+    let reader = session.reader;
+    put_reader(reader, bytes);
+    let pad = session.pad;
+    put_pad(pad, bytes);
+}

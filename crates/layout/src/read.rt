@@ -1,0 +1,121 @@
+// The parts of a session, read from its bytes.
+ghost use mathlib.Core.Path.{_≡_};
+ghost use Prim.Native.Nat.{_+_, _≤_};
+ghost use lib.ListN.{length};
+ghost use Rattle.layout.specs.Layout.{sessionLength, bytesFrom, frameIn, readerIn, padIn, decoded};
+use crate::SESSION_LENGTH;
+use crate::copy::copy;
+use crate::number::phase_of;
+use crate::number::stage_of;
+use pad::line::EditLine;
+use pad::message::Message;
+use pad::parameter::Values;
+use rules::Frame;
+use rules::Held;
+use rules::Pad;
+use rules::Reader;
+use rules::Session;
+use screen::cell::Column;
+use screen::cell::Line;
+use screen::cell::Place;
+
+// The bytes that are there, and zeros up to a session's length.
+pub(crate) fn padded(bytes: &[u8]) -> [u8; SESSION_LENGTH]
+    requires { ⌜ length (now bytes) ≤ sessionLength ⌝ }
+    ensures { λ r. ⌜ r ≡ bytesFrom (now (bytes .entry)) 0 sessionLength ⌝ }
+{
+    let mut whole = [0; SESSION_LENGTH];
+    copy(bytes, &mut whole, 0);
+    whole
+}
+
+// The 28 values from a place on.
+fn values_in(bytes: &[u8], from: usize) -> [u8; 28]
+    requires { ⌜ from + 28 ≤ length (now bytes) ⌝ }
+    ensures { λ r. ⌜ r ≡ bytesFrom (now (bytes .entry)) from 28 ⌝ }
+{
+    let mut values = [0; 28];
+    copy(&bytes[from..from + 28], &mut values, 0);
+    values
+}
+
+// The edit line's bytes.
+fn line_in(bytes: &[u8]) -> [u8; EditLine::CAPACITY]
+    requires { ⌜ sessionLength ≤ length (now bytes) ⌝ }
+    ensures { λ r. ⌜ r ≡ bytesFrom (now (bytes .entry)) 47 128 ⌝ }
+{
+    let mut line = [0; EditLine::CAPACITY];
+    copy(&bytes[47..175], &mut line, 0);
+    line
+}
+
+fn frame_in(bytes: &[u8]) -> Frame
+    requires { ⌜ sessionLength ≤ length (now bytes) ⌝ }
+    ensures { λ r. ⌜ r ≡ frameIn (now (bytes .entry)) ⌝ }
+{
+    Frame {
+        width: bytes[1],
+        height: bytes[2],
+        cursor: Place {
+            x: Column(bytes[3]),
+            y: Line(bytes[4]),
+        },
+        det: bytes[5] == 1,
+        x3: bytes[6] == 1,
+        suppressed: bytes[7] == 1,
+    }
+}
+
+fn reader_in(bytes: &[u8]) -> Reader
+    requires { ⌜ sessionLength ≤ length (now bytes) ⌝ }
+    ensures { λ r. ⌜ r ≡ readerIn (now (bytes .entry)) ⌝ }
+{
+    Reader {
+        phase: phase_of(bytes[8], bytes[9]),
+        held: Held {
+            bytes: [
+                bytes[11],
+                bytes[12],
+                bytes[13],
+                bytes[14],
+                bytes[15],
+                bytes[16],
+            ],
+            count: bytes[10],
+        },
+        cr: bytes[17] == 1,
+    }
+}
+
+fn pad_in(bytes: &[u8]) -> Pad
+    requires { ⌜ sessionLength ≤ length (now bytes) ⌝ }
+    ensures { λ r. ⌜ r ≡ padIn (now (bytes .entry)) ⌝ }
+{
+    Pad {
+        values: Values {
+            held: values_in(bytes, 18),
+        },
+        line: EditLine {
+            bytes: line_in(bytes),
+            len: bytes[46],
+        },
+        message: Message {
+            stage: stage_of(bytes[175], bytes[176], bytes[177]),
+            copy: Values {
+                held: values_in(bytes, 178),
+            },
+        },
+    }
+}
+
+// The session of bytes that are long enough for one.
+pub(crate) fn session_in(bytes: &[u8]) -> Session
+    requires { ⌜ sessionLength ≤ length (now bytes) ⌝ }
+    ensures { λ r. ⌜ r ≡ decoded (now (bytes .entry)) ⌝ }
+{
+    Session {
+        frame: frame_in(bytes),
+        reader: reader_in(bytes),
+        pad: pad_in(bytes),
+    }
+}

@@ -1,0 +1,80 @@
+// The parts of a session, written into its bytes. Each contract says from where to where, the end excluded.
+ghost use mathlib.Core.Path.{_≡_};
+ghost use lib.ListN.{length};
+ghost use Rattle.words.specs.Stored.{Emitted};
+ghost use Rattle.layout.specs.Layout.{sessionLength, frameBytes, readerBytes, lineBytes, messageBytes, padBytes};
+use crate::VERSION;
+use crate::copy::copy;
+use crate::number::bit;
+use crate::number::phase_bytes;
+use crate::number::stage_bytes;
+use pad::line::EditLine;
+use pad::message::Message;
+use rules::Frame;
+use rules::Pad;
+use rules::Reader;
+
+// The version and the frame.
+pub(crate) fn put_frame(frame: Frame, bytes: &mut [u8])
+    requires { ⌜ length (now bytes) ≡ sessionLength ⌝ }
+    ensures { λ _. ⌜ Emitted (now (bytes .entry)) 0 (frameBytes frame) (now (bytes .exit)) 8 ⌝ }
+{
+    bytes[0] = VERSION;
+    bytes[1] = frame.width;
+    bytes[2] = frame.height;
+    bytes[3] = frame.cursor.x.0;
+    bytes[4] = frame.cursor.y.0;
+    bytes[5] = bit(frame.det);
+    bytes[6] = bit(frame.x3);
+    bytes[7] = bit(frame.suppressed);
+}
+
+pub(crate) fn put_reader(reader: Reader, bytes: &mut [u8])
+    requires { ⌜ length (now bytes) ≡ sessionLength ⌝ }
+    ensures { λ _. ⌜ Emitted (now (bytes .entry)) 8 (readerBytes reader) (now (bytes .exit)) 18 ⌝ }
+{
+    let phase = reader.phase;
+    let place = phase_bytes(phase);
+    bytes[8] = place.number;
+    bytes[9] = place.option;
+    bytes[10] = reader.held.count;
+    let held = reader.held.bytes;
+    copy(&held, bytes, 11);
+    bytes[17] = bit(reader.cr);
+}
+
+// The edit line: its length, then its bytes.
+fn put_line(line: EditLine, bytes: &mut [u8])
+    requires { ⌜ length (now bytes) ≡ sessionLength ⌝ }
+    ensures { λ _. ⌜ Emitted (now (bytes .entry)) 46 (lineBytes line) (now (bytes .exit)) 175 ⌝ }
+{
+    bytes[46] = line.len;
+    let text = line.bytes;
+    copy(&text, bytes, 47);
+}
+
+// A message as far as it is read, and its copy of the values.
+fn put_message(message: Message, bytes: &mut [u8])
+    requires { ⌜ length (now bytes) ≡ sessionLength ⌝ }
+    ensures { λ _. ⌜ Emitted (now (bytes .entry)) 175 (messageBytes message) (now (bytes .exit)) 206 ⌝ }
+{
+    let stage = message.stage;
+    let next = stage_bytes(stage);
+    bytes[175] = next.number;
+    bytes[176] = next.code;
+    bytes[177] = next.parameter;
+    let values = message.copy.held;
+    copy(&values, bytes, 178);
+}
+
+pub(crate) fn put_pad(pad: Pad, bytes: &mut [u8])
+    requires { ⌜ length (now bytes) ≡ sessionLength ⌝ }
+    ensures { λ _. ⌜ Emitted (now (bytes .entry)) 18 (padBytes pad) (now (bytes .exit)) 206 ⌝ }
+{
+    let values = pad.values.held;
+    copy(&values, bytes, 18);
+    let line = pad.line;
+    put_line(line, bytes);
+    let message = pad.message;
+    put_message(message, bytes);
+}

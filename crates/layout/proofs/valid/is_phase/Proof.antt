@@ -1,7 +1,7 @@
 -- `is_phase` meets its contract: the tests in their order.
 use Rattle.layout.proofs.Kit.{le-leb, lt-leb}
-use Rattle.layout.proofs.test.is_phase.Statement.{statement}
-use Rattle.layout.proofs.test.is_phase.Tie as tie
+use Rattle.layout.proofs.valid.is_phase.Statement.{statement}
+use Rattle.layout.proofs.valid.is_phase.Tie as tie
 
 none : tie.Need-returns
 none c = rw (lt-leb _ 9 (c .if1 .taken))

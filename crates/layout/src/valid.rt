@@ -1,4 +1,4 @@
-// What a session's bytes must be: flags, a place of the reader, a stage of a message.
+// What the bytes of a session must be; numbers merely out of range are for the rules to refuse.
 ghost use mathlib.Core.Path.{_≡_};
 ghost use Prim.Native.Nat.{_≤_};
 ghost use lib.ListN.{length};
@@ -44,6 +44,7 @@ fn is_stage(number: u8, code: u8, parameter: u8) -> bool
     number == 2
 }
 
+// Are the reader's place and the message's stage among those that there are?
 pub(crate) fn has_places(bytes: &[u8]) -> bool
     requires { ⌜ sessionLength ≤ length (now bytes) ⌝ }
     ensures { λ r. ⌜ r ≡ hasPlaces (now (bytes .entry)) ⌝ }

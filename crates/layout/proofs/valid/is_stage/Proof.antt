@@ -1,7 +1,7 @@
 -- `is_stage` meets its contract: by the number.
 use Rattle.layout.proofs.Kit.{eq-eqb, ne-eqb}
-use Rattle.layout.proofs.test.is_stage.Statement.{statement}
-use Rattle.layout.proofs.test.is_stage.Tie as tie
+use Rattle.layout.proofs.valid.is_stage.Statement.{statement}
+use Rattle.layout.proofs.valid.is_stage.Tie as tie
 
 code : tie.Need-returns
 code c = rw (eq-eqb _ 0 (c .before .if1 .taken), eq-eqb _ 0 (c .if2 .taken))

@@ -1,7 +1,7 @@
 -- `has_places` meets its contract: the one test, then the other.
 use Rattle.layout.proofs.Kit.{sym, _∙_, needs, not-true, not-false}
-use Rattle.layout.proofs.test.has_places.Statement.{statement}
-use Rattle.layout.proofs.test.has_places.Tie as tie
+use Rattle.layout.proofs.valid.has_places.Statement.{statement}
+use Rattle.layout.proofs.valid.has_places.Tie as tie
 
 no-phase : tie.Need-returns
 no-phase c = rw (sym (c .before .is-phase .ensures) ∙ not-true _ (c .if1 .taken))

@@ -1,7 +1,7 @@
 -- `has_flags` meets its contract: the tests in their order.
 use Rattle.layout.proofs.Kit.{needs, le-leb, lt-leb}
-use Rattle.layout.proofs.test.has_flags.Statement.{statement}
-use Rattle.layout.proofs.test.has_flags.Tie as tie
+use Rattle.layout.proofs.valid.has_flags.Statement.{statement}
+use Rattle.layout.proofs.valid.has_flags.Tie as tie
 
 det : tie.Need-returns
 det c = rw (lt-leb _ 1 (c .if1 .taken))

@@ -14,6 +14,13 @@ const INPUT: usize = 65_536;
 
 const ROOM: usize = 80_000;
 
+// What is on or off in the session.
+pub enum Switch {
+    Det,
+    Suppress,
+    Pad,
+}
+
 pub enum Order {
     Open {
         width: usize,
@@ -29,8 +36,10 @@ pub enum Order {
         y: u8,
     },
     Held(u8),
-    Det(bool),
-    Suppress(bool),
+    Switch {
+        switch: Switch,
+        on: bool,
+    },
     Host {
         count: usize,
         room: usize,
@@ -58,8 +67,7 @@ enum Word {
     Attrs,
     Cursor,
     Held,
-    Det,
-    Suppress,
+    Switch(Switch),
     Host,
     Key,
     State,
@@ -98,6 +106,20 @@ fn call_word(word: &[u8]) -> Word {
     Word::Unknown
 }
 
+// The words of what is switched, and those of calls.
+fn switch_word(word: &[u8]) -> Word {
+    if same(word, b"det") {
+        return Word::Switch(Switch::Det);
+    }
+    if same(word, b"suppress") {
+        return Word::Switch(Switch::Suppress);
+    }
+    if same(word, b"pad") {
+        return Word::Switch(Switch::Pad);
+    }
+    call_word(word)
+}
+
 // The words of what is set without a call, and the others.
 fn word_of(letters: &[u8], length: usize) -> Word {
     let n = least(length, letters.len());
@@ -114,13 +136,7 @@ fn word_of(letters: &[u8], length: usize) -> Word {
     if same(word, b"held") {
         return Word::Held;
     }
-    if same(word, b"det") {
-        return Word::Det;
-    }
-    if same(word, b"suppress") {
-        return Word::Suppress;
-    }
-    call_word(word)
+    switch_word(word)
 }
 
 // The order, if the line ends here. A line that cannot be read is the last.
@@ -185,14 +201,13 @@ fn held(block: &mut [u8], source: Source) -> Parsed {
     closed(count.source, Order::Held(count.value as u8))
 }
 
-fn det(block: &mut [u8], source: Source) -> Parsed {
+fn switching(block: &mut [u8], source: Source, switch: Switch) -> Parsed {
     let on = field::number(block, source, 1);
-    closed(on.source, Order::Det(on.value == 1))
-}
-
-fn suppress(block: &mut [u8], source: Source) -> Parsed {
-    let on = field::number(block, source, 1);
-    closed(on.source, Order::Suppress(on.value == 1))
+    let order = Order::Switch {
+        switch: switch,
+        on: on.value == 1,
+    };
+    closed(on.source, order)
 }
 
 fn host(block: &mut [u8], source: Source, bytes: &mut [u8]) -> Parsed {
@@ -239,8 +254,7 @@ pub(crate) fn read(block: &mut [u8], source: Source, bytes: &mut [u8]) -> Parsed
         Word::Attrs => attrs(block, after, bytes),
         Word::Cursor => cursor(block, after),
         Word::Held => held(block, after),
-        Word::Det => det(block, after),
-        Word::Suppress => suppress(block, after),
+        Word::Switch(named) => switching(block, after, named),
         Word::Host => host(block, after, bytes),
         Word::Key => key(block, after),
         Word::State => closed(after, Order::State),

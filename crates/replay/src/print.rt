@@ -5,8 +5,11 @@ use crate::order::Order;
 use crate::sink;
 use crate::sink::Sink;
 use admit::number::number_of;
+use pad::line::EditLine;
+use pad::parameter::Values;
 use rules::Answer;
-use rules::Session;
+use rules::Frame;
+use rules::Pad;
 use telnet::Phase;
 use telnet::Verb;
 
@@ -44,14 +47,44 @@ fn numbers(out: &mut [u8], sink: Sink, answer: Answer) -> Sink {
 }
 
 // The session's size, cursor and flags.
-fn session(out: &mut [u8], sink: Sink, session: Session) -> Sink {
-    let frame = session.frame;
+fn session(out: &mut [u8], sink: Sink, frame: Frame) -> Sink {
     let width = byte(out, sink, frame.width);
     let height = byte(out, width, frame.height);
     let x = byte(out, height, frame.cursor.x.0);
     let y = byte(out, x, frame.cursor.y.0);
     let det = flag(out, y, frame.det);
     flag(out, det, frame.suppressed)
+}
+
+fn line_bytes(out: &mut [u8], sink: Sink, buffer: &[u8; 128], length: usize) -> Sink {
+    bytes(out, sink, buffer, length)
+}
+
+fn edit_line(out: &mut [u8], sink: Sink, line: EditLine) -> Sink {
+    let buffer = line.bytes;
+    line_bytes(out, sink, &buffer, line.length())
+}
+
+fn parameter_bytes(out: &mut [u8], sink: Sink, held: &[u8; 28]) -> Sink {
+    bytes(out, sink, held, 28)
+}
+
+fn parameters(out: &mut [u8], sink: Sink, values: Values) -> Sink {
+    let held = values.held;
+    parameter_bytes(out, sink, &held)
+}
+
+// Whether option 30 is on, the characters that wait in the edit line, and the values of all parameters.
+fn pad(out: &mut [u8], sink: Sink, x3: bool, pad: Pad) -> Sink {
+    let switched = flag(out, sink, x3);
+    let waiting = edit_line(out, switched, pad.line);
+    parameters(out, waiting, pad.values)
+}
+
+// The two buffers of the screen.
+fn buffers(out: &mut [u8], sink: Sink, desk: Desk, chars: &[u8], attrs: &[u8]) -> Sink {
+    let lettered = bytes(out, sink, chars, desk.chars);
+    bytes(out, lettered, attrs, desk.attrs)
 }
 
 fn answer(
@@ -63,11 +96,13 @@ fn answer(
     reply: &[u8],
 ) -> Sink {
     let answer = desk.answer;
+    let after = answer.session;
+    let frame = after.frame;
     let counted = numbers(out, sink, answer);
     let replied = bytes(out, counted, reply, desk.room);
-    let told = session(out, replied, answer.session);
-    let lettered = bytes(out, told, chars, desk.chars);
-    let whole = bytes(out, lettered, attrs, desk.attrs);
+    let told = session(out, replied, frame);
+    let shown = buffers(out, told, desk, chars, attrs);
+    let whole = pad(out, shown, frame.x3, after.pad);
     sink::put(out, whole, b'\n')
 }
 

@@ -5,6 +5,7 @@ use crate::order::Switch;
 use det::operation::host_bytes;
 use det::operation::key;
 use rules::Answer;
+use rules::Reader;
 use rules::Session;
 
 // What stands in a buffer before its first call.
@@ -160,6 +161,11 @@ fn called(
 fn session_of(desk: Desk) -> Session {
     let answer = desk.answer;
     answer.session
+}
+
+pub(crate) fn reader_of(desk: Desk) -> Reader {
+    let session = session_of(desk);
+    session.reader
 }
 
 fn set_chars(desk: Desk, from: &[u8], chars: &mut [u8], length: usize) -> Desk {

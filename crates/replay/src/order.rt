@@ -239,6 +239,22 @@ fn wordless(source: Source) -> Parsed {
     closed(source, Order::Bad)
 }
 
+// The rest of a line that begins with this word.
+fn rest(block: &mut [u8], source: Source, word: Word, bytes: &mut [u8]) -> Parsed {
+    match word {
+        Word::Open => open(block, source),
+        Word::Chars => chars(block, source, bytes),
+        Word::Attrs => attrs(block, source, bytes),
+        Word::Cursor => cursor(block, source),
+        Word::Held => held(block, source),
+        Word::Switch(named) => switching(block, source, named),
+        Word::Host => host(block, source, bytes),
+        Word::Key => key(block, source),
+        Word::State => closed(source, Order::State),
+        Word::Unknown => closed(source, Order::Bad),
+    }
+}
+
 // Reads a line. The bytes of an order that has some go to the start of `bytes`.
 pub(crate) fn read(block: &mut [u8], source: Source, bytes: &mut [u8]) -> Parsed {
     let mut letters = [0u8; 8];
@@ -248,16 +264,5 @@ pub(crate) fn read(block: &mut [u8], source: Source, bytes: &mut [u8]) -> Parsed
         return wordless(after);
     }
     let word = word_of(&letters, field.value);
-    match word {
-        Word::Open => open(block, after),
-        Word::Chars => chars(block, after, bytes),
-        Word::Attrs => attrs(block, after, bytes),
-        Word::Cursor => cursor(block, after),
-        Word::Held => held(block, after),
-        Word::Switch(named) => switching(block, after, named),
-        Word::Host => host(block, after, bytes),
-        Word::Key => key(block, after),
-        Word::State => closed(after, Order::State),
-        Word::Unknown => closed(after, Order::Bad),
-    }
+    rest(block, after, word, bytes)
 }

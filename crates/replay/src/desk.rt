@@ -1,18 +1,12 @@
 // The session and the lengths of the lent buffers, and what each order does to them.
 use crate::number::least;
 use crate::order::Order;
-use command::frame::moved;
-use command::frame::switched;
+use crate::order::Switch;
 use det::operation::host_bytes;
 use det::operation::key;
 use rules::Answer;
-use rules::Frame;
-use rules::Held;
 use rules::Reader;
 use rules::Session;
-use screen::cell::Column;
-use screen::cell::Line;
-use screen::cell::Place;
 
 // What stands in a buffer before its first call.
 const CHAR: u8 = 0x2a;
@@ -164,40 +158,14 @@ fn called(
     }
 }
 
-// The desk with another session.
-fn with_session(desk: Desk, session: Session) -> Desk {
-    let last = desk.answer;
-    let refusal = last.refusal;
-    let answer = Answer {
-        session: session,
-        refusal: refusal,
-        taken: last.taken,
-        written: last.written,
-    };
-    Desk {
-        answer: answer,
-        chars: desk.chars,
-        attrs: desk.attrs,
-        room: desk.room,
-    }
-}
-
 fn session_of(desk: Desk) -> Session {
     let answer = desk.answer;
     answer.session
 }
 
-// The desk with another frame; the reader stays where it is.
-fn with_frame(desk: Desk, frame: Frame) -> Desk {
+pub(crate) fn reader_of(desk: Desk) -> Reader {
     let session = session_of(desk);
-    let reader = session.reader;
-    with_session(
-        desk,
-        Session {
-            frame: frame,
-            reader: reader,
-        },
-    )
+    session.reader
 }
 
 fn set_chars(desk: Desk, from: &[u8], chars: &mut [u8], length: usize) -> Desk {
@@ -215,44 +183,26 @@ fn set_attrs(desk: Desk, from: &[u8], attrs: &mut [u8], length: usize) -> Desk {
 }
 
 fn set_cursor(desk: Desk, x: u8, y: u8) -> Desk {
-    let session = session_of(desk);
-    let cursor = Place {
-        x: Column(x),
-        y: Line(y),
-    };
-    with_frame(desk, moved(session.frame, cursor))
+    let mut desk = desk;
+    desk.answer.session.frame.cursor.x.0 = x;
+    desk.answer.session.frame.cursor.y.0 = y;
+    desk
 }
 
 fn set_held(desk: Desk, count: u8) -> Desk {
-    let session = session_of(desk);
-    let frame = session.frame;
-    let old = session.reader;
-    let phase = old.phase;
-    let bytes = old.held.bytes;
-    let reader = Reader {
-        phase: phase,
-        held: Held {
-            bytes: bytes,
-            count: count,
-        },
-    };
-    with_session(
-        desk,
-        Session {
-            frame: frame,
-            reader: reader,
-        },
-    )
+    let mut desk = desk;
+    desk.answer.session.reader.held.count = count;
+    desk
 }
 
-fn set_det(desk: Desk, on: bool) -> Desk {
-    let frame = session_of(desk).frame;
-    with_frame(desk, switched(frame, on, frame.suppressed))
-}
-
-fn set_suppressed(desk: Desk, on: bool) -> Desk {
-    let frame = session_of(desk).frame;
-    with_frame(desk, switched(frame, frame.det, on))
+fn set_switch(desk: Desk, switch: Switch, on: bool) -> Desk {
+    let mut desk = desk;
+    match switch {
+        Switch::Det => desk.answer.session.frame.det = on,
+        Switch::Suppress => desk.answer.session.frame.suppressed = on,
+        Switch::Pad => desk.answer.session.frame.x3 = on,
+    }
+    desk
 }
 
 // Does what the order says.
@@ -275,8 +225,7 @@ pub(crate) fn obey(
         Order::Attrs(length) => set_attrs(desk, bytes, attrs, length),
         Order::Cursor { x, y } => set_cursor(desk, x, y),
         Order::Held(count) => set_held(desk, count),
-        Order::Det(on) => set_det(desk, on),
-        Order::Suppress(on) => set_suppressed(desk, on),
+        Order::Switch { switch, on } => set_switch(desk, switch, on),
         Order::Host { count, room } => called(
             desk,
             Call::Host,

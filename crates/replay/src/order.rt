@@ -14,6 +14,13 @@ const INPUT: usize = 65_536;
 
 const ROOM: usize = 80_000;
 
+// What is on or off in the session.
+pub enum Switch {
+    Det,
+    Suppress,
+    Pad,
+}
+
 pub enum Order {
     Open {
         width: usize,
@@ -29,8 +36,10 @@ pub enum Order {
         y: u8,
     },
     Held(u8),
-    Det(bool),
-    Suppress(bool),
+    Switch {
+        switch: Switch,
+        on: bool,
+    },
     Host {
         count: usize,
         room: usize,
@@ -58,8 +67,7 @@ enum Word {
     Attrs,
     Cursor,
     Held,
-    Det,
-    Suppress,
+    Switch(Switch),
     Host,
     Key,
     State,
@@ -98,6 +106,20 @@ fn call_word(word: &[u8]) -> Word {
     Word::Unknown
 }
 
+// The words of what is switched, and those of calls.
+fn switch_word(word: &[u8]) -> Word {
+    if same(word, b"det") {
+        return Word::Switch(Switch::Det);
+    }
+    if same(word, b"suppress") {
+        return Word::Switch(Switch::Suppress);
+    }
+    if same(word, b"pad") {
+        return Word::Switch(Switch::Pad);
+    }
+    call_word(word)
+}
+
 // The words of what is set without a call, and the others.
 fn word_of(letters: &[u8], length: usize) -> Word {
     let n = least(length, letters.len());
@@ -114,13 +136,7 @@ fn word_of(letters: &[u8], length: usize) -> Word {
     if same(word, b"held") {
         return Word::Held;
     }
-    if same(word, b"det") {
-        return Word::Det;
-    }
-    if same(word, b"suppress") {
-        return Word::Suppress;
-    }
-    call_word(word)
+    switch_word(word)
 }
 
 // The order, if the line ends here. A line that cannot be read is the last.
@@ -185,14 +201,13 @@ fn held(block: &mut [u8], source: Source) -> Parsed {
     closed(count.source, Order::Held(count.value as u8))
 }
 
-fn det(block: &mut [u8], source: Source) -> Parsed {
+fn switching(block: &mut [u8], source: Source, switch: Switch) -> Parsed {
     let on = field::number(block, source, 1);
-    closed(on.source, Order::Det(on.value == 1))
-}
-
-fn suppress(block: &mut [u8], source: Source) -> Parsed {
-    let on = field::number(block, source, 1);
-    closed(on.source, Order::Suppress(on.value == 1))
+    let order = Order::Switch {
+        switch: switch,
+        on: on.value == 1,
+    };
+    closed(on.source, order)
 }
 
 fn host(block: &mut [u8], source: Source, bytes: &mut [u8]) -> Parsed {
@@ -224,6 +239,22 @@ fn wordless(source: Source) -> Parsed {
     closed(source, Order::Bad)
 }
 
+// The rest of a line that begins with this word.
+fn rest(block: &mut [u8], source: Source, word: Word, bytes: &mut [u8]) -> Parsed {
+    match word {
+        Word::Open => open(block, source),
+        Word::Chars => chars(block, source, bytes),
+        Word::Attrs => attrs(block, source, bytes),
+        Word::Cursor => cursor(block, source),
+        Word::Held => held(block, source),
+        Word::Switch(named) => switching(block, source, named),
+        Word::Host => host(block, source, bytes),
+        Word::Key => key(block, source),
+        Word::State => closed(source, Order::State),
+        Word::Unknown => closed(source, Order::Bad),
+    }
+}
+
 // Reads a line. The bytes of an order that has some go to the start of `bytes`.
 pub(crate) fn read(block: &mut [u8], source: Source, bytes: &mut [u8]) -> Parsed {
     let mut letters = [0u8; 8];
@@ -233,17 +264,5 @@ pub(crate) fn read(block: &mut [u8], source: Source, bytes: &mut [u8]) -> Parsed
         return wordless(after);
     }
     let word = word_of(&letters, field.value);
-    match word {
-        Word::Open => open(block, after),
-        Word::Chars => chars(block, after, bytes),
-        Word::Attrs => attrs(block, after, bytes),
-        Word::Cursor => cursor(block, after),
-        Word::Held => held(block, after),
-        Word::Det => det(block, after),
-        Word::Suppress => suppress(block, after),
-        Word::Host => host(block, after, bytes),
-        Word::Key => key(block, after),
-        Word::State => closed(after, Order::State),
-        Word::Unknown => closed(after, Order::Bad),
-    }
+    rest(block, after, word, bytes)
 }

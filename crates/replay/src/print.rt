@@ -1,12 +1,17 @@
 // The line that answers an order.
 use crate::desk::Desk;
+use crate::desk::reader_of;
 use crate::number::least;
 use crate::order::Order;
 use crate::sink;
 use crate::sink::Sink;
 use admit::number::number_of;
+use pad::line::EditLine;
+use pad::parameter::Values;
 use rules::Answer;
-use rules::Session;
+use rules::Frame;
+use rules::Pad;
+use rules::Reader;
 use telnet::Phase;
 use telnet::Verb;
 
@@ -44,14 +49,44 @@ fn numbers(out: &mut [u8], sink: Sink, answer: Answer) -> Sink {
 }
 
 // The session's size, cursor and flags.
-fn session(out: &mut [u8], sink: Sink, session: Session) -> Sink {
-    let frame = session.frame;
+fn session(out: &mut [u8], sink: Sink, frame: Frame) -> Sink {
     let width = byte(out, sink, frame.width);
     let height = byte(out, width, frame.height);
     let x = byte(out, height, frame.cursor.x.0);
     let y = byte(out, x, frame.cursor.y.0);
     let det = flag(out, y, frame.det);
     flag(out, det, frame.suppressed)
+}
+
+fn line_bytes(out: &mut [u8], sink: Sink, buffer: &[u8; 128], length: usize) -> Sink {
+    bytes(out, sink, buffer, length)
+}
+
+fn edit_line(out: &mut [u8], sink: Sink, line: EditLine) -> Sink {
+    let buffer = line.bytes;
+    line_bytes(out, sink, &buffer, line.length())
+}
+
+fn parameter_bytes(out: &mut [u8], sink: Sink, held: &[u8; 28]) -> Sink {
+    bytes(out, sink, held, 28)
+}
+
+fn parameters(out: &mut [u8], sink: Sink, values: Values) -> Sink {
+    let held = values.held;
+    parameter_bytes(out, sink, &held)
+}
+
+// Whether option 30 is on, the characters that wait in the edit line, and the values of all parameters.
+fn pad(out: &mut [u8], sink: Sink, x3: bool, pad: Pad) -> Sink {
+    let switched = flag(out, sink, x3);
+    let waiting = edit_line(out, switched, pad.line);
+    parameters(out, waiting, pad.values)
+}
+
+// The two buffers of the screen.
+fn buffers(out: &mut [u8], sink: Sink, desk: Desk, chars: &[u8], attrs: &[u8]) -> Sink {
+    let lettered = bytes(out, sink, chars, desk.chars);
+    bytes(out, lettered, attrs, desk.attrs)
 }
 
 fn answer(
@@ -63,89 +98,40 @@ fn answer(
     reply: &[u8],
 ) -> Sink {
     let answer = desk.answer;
+    let after = answer.session;
+    let frame = after.frame;
     let counted = numbers(out, sink, answer);
     let replied = bytes(out, counted, reply, desk.room);
-    let told = session(out, replied, answer.session);
-    let lettered = bytes(out, told, chars, desk.chars);
-    let whole = bytes(out, lettered, attrs, desk.attrs);
+    let told = session(out, replied, frame);
+    let shown = buffers(out, told, desk, chars, attrs);
+    let whole = pad(out, shown, frame.x3, after.pad);
     sink::put(out, whole, b'\n')
 }
 
-// The name of a place where the reader stands: the bytes, padded, and how many count.
-struct Name {
-    bytes: [u8; 8],
-    length: usize,
-}
-
-fn verb_name(verb: Verb) -> Name {
+fn verb(out: &mut [u8], sink: Sink, verb: Verb) -> Sink {
     match verb {
-        Verb::Will => Name {
-            bytes: *b"will -  ",
-            length: 6,
-        },
-        Verb::Wont => Name {
-            bytes: *b"wont -  ",
-            length: 6,
-        },
-        Verb::Do => Name {
-            bytes: *b"do -    ",
-            length: 4,
-        },
-        Verb::Dont => Name {
-            bytes: *b"dont -  ",
-            length: 6,
-        },
+        Verb::Will => sink::text(out, sink, b"will -"),
+        Verb::Wont => sink::text(out, sink, b"wont -"),
+        Verb::Do => sink::text(out, sink, b"do -"),
+        Verb::Dont => sink::text(out, sink, b"dont -"),
     }
 }
 
-fn phase_name(phase: Phase) -> Name {
-    match phase {
-        Phase::Rest => Name {
-            bytes: *b"data -  ",
-            length: 6,
-        },
-        Phase::Iac => Name {
-            bytes: *b"iac -   ",
-            length: 5,
-        },
-        Phase::Negotiating(verb) => verb_name(verb),
-        Phase::Opening => Name {
-            bytes: *b"sb -    ",
-            length: 4,
-        },
-        Phase::OpeningIac => Name {
-            bytes: *b"sb-iac -",
-            length: 8,
-        },
-        Phase::Inside(_) => Name {
-            bytes: *b"sub     ",
-            length: 3,
-        },
-        Phase::InsideIac(_) => Name {
-            bytes: *b"sub-iac ",
-            length: 7,
-        },
-    }
-}
-
-fn first(out: &mut [u8], sink: Sink, text: &[u8], length: usize) -> Sink {
-    let n = least(length, text.len());
-    sink::text(out, sink, &text[0..n])
-}
-
-fn named(out: &mut [u8], sink: Sink, text: &[u8; 8], length: usize) -> Sink {
-    first(out, sink, text, length)
+fn inside(out: &mut [u8], sink: Sink, stand: &[u8], option: u8) -> Sink {
+    let named = sink::text(out, sink, stand);
+    byte(out, named, option)
 }
 
 // Where the reader stands, and the option of the subnegotiation that it is in.
 fn phase(out: &mut [u8], sink: Sink, phase: Phase) -> Sink {
-    let called = phase_name(phase);
-    let text = called.bytes;
-    let told = named(out, sink, &text, called.length);
     match phase {
-        Phase::Inside(option) => byte(out, told, option),
-        Phase::InsideIac(option) => byte(out, told, option),
-        _ => told,
+        Phase::Rest => sink::text(out, sink, b"data -"),
+        Phase::Iac => sink::text(out, sink, b"iac -"),
+        Phase::Negotiating(named) => verb(out, sink, named),
+        Phase::Opening => sink::text(out, sink, b"sb -"),
+        Phase::OpeningIac => sink::text(out, sink, b"sb-iac -"),
+        Phase::Inside(option) => inside(out, sink, b"sub", option),
+        Phase::InsideIac(option) => inside(out, sink, b"sub-iac", option),
     }
 }
 
@@ -153,15 +139,12 @@ fn held_bytes(out: &mut [u8], sink: Sink, six: &[u8; 6]) -> Sink {
     bytes(out, sink, six, 6)
 }
 
-fn state(out: &mut [u8], sink: Sink, desk: Desk) -> Sink {
-    let answer = desk.answer;
-    let session = answer.session;
-    let reader = session.reader;
+fn state(out: &mut [u8], sink: Sink, reader: Reader) -> Sink {
     let stand = reader.phase;
     let held = reader.held;
+    let six = held.bytes;
     let placed = phase(out, sink, stand);
     let counted = byte(out, placed, held.count);
-    let six = held.bytes;
     let whole = held_bytes(out, counted, &six);
     sink::put(out, whole, b'\n')
 }
@@ -186,7 +169,7 @@ pub(crate) fn line(
         } => answer(out, sink, desk, chars, attrs, reply),
         Order::Host { count: _, room: _ } => answer(out, sink, desk, chars, attrs, reply),
         Order::Key { key: _, room: _ } => answer(out, sink, desk, chars, attrs, reply),
-        Order::State => state(out, sink, desk),
+        Order::State => state(out, sink, reader_of(desk)),
         Order::End => sink,
         Order::Bad => bad_line(out, sink, number),
         _ => sink::text(out, sink, b"set\n"),

@@ -116,6 +116,8 @@ pub struct Counts {
 
 /// Opens a screen: spaces, attributes 0, a new session. Refused, it changes no
 /// buffer.
+// A session is as long where it is opened.
+#[allow(clippy::result_large_err)]
 pub fn open(
     width: usize,
     height: usize,

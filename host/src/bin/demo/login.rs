@@ -14,14 +14,19 @@ const PASSWORD: &[u8] = b" Password: ";
 
 const SET: u8 = 0;
 
-/// Parameters of option 30, each with the value that is set: echo; sent at CR;
-/// line feeds after CR, from the host and in echo; editing, by BS; signals for
-/// a display.
-const EDITED: [u8; 12] = [2, 1, 3, 2, 13, 5, 15, 1, 16, BS, 19, 2];
-const UNSEEN: [u8; 2] = [2, 0];
-
 const BS: u8 = 8;
 const CR: u8 = 13;
+
+/// Parameters of option 30, each with its value.
+const EDITED: [[u8; 2]; 6] = [
+    [2, 1],   // echo
+    [3, 2],   // a line goes out at CR
+    [13, 5],  // LF after CR counts from the host, and is added in echo
+    [15, 1],  // editing
+    [16, BS], // takes the last character back
+    [19, 2],  // and wipes it off the screen
+];
+const UNSEEN: [[u8; 2]; 1] = [[2, 0]];
 
 struct Login<'a> {
     desk: Desk,
@@ -46,19 +51,17 @@ pub fn tell(teller: &mut Teller) -> Done {
     login.password()
 }
 
-fn set(pairs: &[u8]) -> Vec<u8> {
-    subnegotiation(PAD, &[&[SET], pairs].concat())
+fn set(pairs: &[[u8; 2]]) -> Vec<u8> {
+    subnegotiation(PAD, &[&[SET], pairs.as_flattened()].concat())
 }
 
 impl Login<'_> {
     fn ask(&mut self) -> Done {
-        self.say(
-            "7. The host turns option 30 on: typing is to be echoed and edited here, and sent",
-        )?;
-        self.say("   at return. Then it asks for a name.")?;
+        self.say("7. The host turns option 30 on: typing is echoed and edited here, and sent at")?;
+        self.say("   return. Then it asks for a name.")?;
         let bytes = [&turn_on(PAD), &set(&EDITED), WELCOME].concat();
         let reply = self.desk.host(&bytes)?;
-        expect("reply", &*hex(&reply), "ff fb 1e")?;
+        expect("reply", &*format!("{reply:x?}"), "[ff, fb, 1e]")?;
         self.show()
     }
 
@@ -86,14 +89,12 @@ impl Login<'_> {
 
     fn password(&mut self) -> Done {
         self.say(
-            "11. The host turns echo off and asks for the password. It is edited as the name",
+            "11. The host turns echo off and asks for the password. It is typed unseen, with",
         )?;
-        self.say("    was, unseen: a slip, backspace, the rest, return.")?;
+        self.say("    a slip and backspace as before, then return.")?;
         self.desk.host(&[&set(&UNSEEN), PASSWORD].concat())?;
         let before = self.desk.chars.clone();
-        for key in *b"tulio\x08p-9" {
-            expect("sent", self.key(key)?.len(), 0)?;
-        }
+        self.waits(b"tulio\x08p-9", "tulip-9")?;
         let sent = self.key(CR)?;
         expect("sent", &*text(&sent), "tulip-9\r\0")?;
         if self.desk.chars != before {
@@ -144,9 +145,4 @@ impl Login<'_> {
 
 fn text(bytes: &[u8]) -> String {
     bytes.iter().copied().map(char::from).collect()
-}
-
-fn hex(bytes: &[u8]) -> String {
-    let digits: Vec<_> = bytes.iter().map(|byte| format!("{byte:02x}")).collect();
-    digits.join(" ")
 }

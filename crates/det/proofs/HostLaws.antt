@@ -223,9 +223,9 @@ module _ {f : Frame} {r : Reader} {lf : Bool} {b b₁ : Screen} {input : List �
   stretch-turns p prints a = taking-run (state (session f r p) b) reply at a (quiet p prints)
 
   -- and more
-  pub then-turns : {u : Turn} {b₂ : Screen} {reply′ : List ℕ} → Turns (t .frame) (t .reader) lf b₁ input (t .end) reply at u b₂ reply′
+  pub then-turns : (u : Turn) {b₂ : Screen} {reply′ : List ℕ} → Turns (t .frame) (t .reader) lf b₁ input (t .end) reply at u b₂ reply′
       → Turns f r lf b input from reply at u b₂ reply′
-  then-turns {u} w p prints a =
+  then-turns u w p prints a =
       let run = quiet p prints in
       let rest = w p prints (accepts-run (state (session f r p) b) reply at a run) in
       taking-then (taking-run (state (session f r p) b) reply at a run) (rw (pad-by-x3 (t .frame) f p (u .event) (q p prints .x3)) at rest)

@@ -7,6 +7,9 @@ use native.Mathlib.Omega.{arith}
 use borrow.Author.Tests.{eqb-true}
 use lib.Dec.{eqb}
 use lib.ListN.{length, getD}
+use types.Run.{OneOf, miss}
+use denote.Enum.Declared.{tagOf}
+use Rattle.telnet.proofs.Phase.{the-type}
 use Rattle.words.specs.Words.{if_then_else_}
 use Rattle.words.specs.Stored.{Room, Emitted}
 use Rattle.words.proofs.Laws.{either, not-both}
@@ -110,3 +113,14 @@ module _ (f : Frame) (r : Reader) (p : Pad) (b : Screen) (reply : List ℕ) (at 
       let same : state (session f (t .reader) (t .pad)) b ≡ (hostByte s byte) .state = rw (k .reader, k .pad, says v r p told inside) in
       let room = byte-answerable s reply at a byte refl .room in
       taking-byte s reply at a h same (answered v r p told inside (b .chars) room (k .answer))
+
+-- what the other arms of a match on a phase know
+pub in-none : (p : Phase) → OneOf (0 ∷ 1 ∷ 2 ∷ 3 ∷ 4 ∷ []) (tagOf the-type p) → false ≡ inMessage p
+unfolding inMessage
+in-none Rest k = refl
+in-none Iac k = refl
+in-none (Negotiating v) k = refl
+in-none Opening k = refl
+in-none OpeningIac k = refl
+in-none (Inside o) k = absurd (miss (0 ∷ 1 ∷ 2 ∷ 3 ∷ 4 ∷ []) 5 tt k)
+in-none (InsideIac o) k = absurd (miss (0 ∷ 1 ∷ 2 ∷ 3 ∷ 4 ∷ []) 6 tt k)

@@ -5,7 +5,7 @@ use mathlib.Core.List.{List, [], _∷_, _++_}
 use Prim.Native.Nat.{ℕ, suc, _+_, _≤_, _<_}
 use native.Mathlib.Omega.{arith}
 use borrow.Author.Tests.{ne-eqb}
-use lib.Dec.{eqb}
+use lib.Dec.{ltb, eqb}
 use lib.ListN.{length, getD}
 use Rattle.words.specs.Words.{if_then_else_}
 use Rattle.words.proofs.Laws.{either, true-or-false}
@@ -15,7 +15,7 @@ use Rattle.telnet.specs.declared.Event.the-variants.{Nothing, End}
 use Rattle.telnet.specs.declared.stretch.Stretch.{Stretch}
 use Rattle.telnet.specs.declared.Step.{Step}
 use Rattle.telnet.specs.Reader.{iac, sb, se, afterIac, opening, inside, insideIac, readOf, reader}
-use Rattle.telnet.specs.Stream.{part, stretchOf}
+use Rattle.telnet.specs.Stream.{dataEnd, part, stretchOf}
 use Rattle.telnet.proofs.Laws.{No255}
 use Rattle.telnet.proofs.PartLaws.{part-none}
 use Rattle.telnet.proofs.AheadLaws.{Whole}
@@ -169,7 +169,7 @@ turn t f held cr at =
 outside-after : (p : Phase) (bytes : List ℕ) (from : ℕ) → inMessage p ≡ false → inMessage ((readOf p 255) .phase) ≡ false
     → inMessage ((stretchOf p bytes from) .phase) ≡ false
 unfolding stretchOf
-outside-after p bytes from a b = either (λ q. inMessage q ≡ false) _ (λ t. b) (λ t. a)
+outside-after p bytes from a b = either (λ q. inMessage q ≡ false) (ltb (dataEnd bytes from) (length bytes)) (λ t. b) (λ t. a)
 
 module _ {input : List ℕ} {from : ℕ} (h : from < length input) (p : Phase) {t : Stretch} (e : t ≡ stretchOf p input from) where
   pub lies : Lies input from t
@@ -306,3 +306,14 @@ told-next {r} {input} {from} out l = record {
   cr = refl;
   unasked = end-outside (r .phase) (getD input from 0) out;
 }
+
+-- ---- what the functions know
+
+-- a subnegotiation that is no message of option 30
+pub inside-other : {p : Phase} {o : ℕ} → p ≡ Inside o → inMessage p ≡ false → isX3 o ≡ false
+unfolding inMessage
+inside-other e out = rw e at out
+
+-- CR LF joined or not, by the parameter as it was handed on
+pub joins-by : (f : Frame) (p : Pad) {lf : Bool} → printsLf (p .values) ≡ lf → joins f p ≡ (lineTakesKeys f && not lf)
+joins-by f p e = rw e

@@ -1,9 +1,10 @@
 -- Laws of one host byte: what is decided on its event, and what the decision does.
 use mathlib.Core.Path.{_≡_, refl, sym, ap, _∙_}
-use mathlib.Core.Bool.{Bool, false}
+use mathlib.Core.Bool.{Bool, true, false, not, _&&_}
 use mathlib.Core.List.{List, [], _∷_}
 use Prim.Native.Nat.{ℕ, _+_, _≤_}
 use native.Mathlib.Omega.{arith}
+use lib.Dec.{eqb}
 use lib.ListN.{length, drop, length-drop}
 use types.Run.{OneOf, miss}
 use denote.Enum.Declared.{tagOf}
@@ -18,10 +19,10 @@ use Rattle.rules.specs.declared.Reader.{Reader}
 use Rattle.rules.specs.declared.Pad.{Pad}
 use Rattle.rules.specs.declared.Refusal.{Refusal}
 use Rattle.rules.specs.declared.Refusal.the-variants.{Taken}
-use Rattle.rules.specs.Session.{Screen, State, View, replyRoom, session, screen, state, view, viewOf}
+use Rattle.rules.specs.Session.{Screen, State, View, lineTakesKeys, replyRoom, session, screen, state, view, viewOf}
 use Rattle.rules.specs.Refusal.{isTaken}
 use Rattle.rules.specs.Effect.{Effect, changedAll, spelledAll, changing, quiet}
-use Rattle.rules.specs.Telnet.{heldAfter, crAfter}
+use Rattle.rules.specs.Telnet.{heldAfter, crAfter, hostData}
 use Rattle.rules.specs.Pad.{isX3, padAfter, response, passes}
 use Rattle.rules.specs.Operation.{applied, happening, hostByte, hostRefusal}
 use Rattle.rules.specs.Call.{host}
@@ -105,7 +106,19 @@ det-effect v r p Lost u = refl
 effect-only : (v : View) (lf cr : Bool) (b : ℕ) → let e = dataEffect v lf cr b in e ≡ changing (view (e .view .frame) (v .attrs)) (e .changes)
 unfolding dataEffect
 effect-only v lf cr b =
-    either (λ (e : Effect). e ≡ changing (view (e .view .frame) (v .attrs)) (e .changes)) _ (λ t. refl) (λ t. data-only v b)
+    either (λ (e : Effect). e ≡ changing (view (e .view .frame) (v .attrs)) (e .changes))
+    ((lineTakesKeys (v .frame) && not lf) && (cr && eqb b 10)) {x = quiet v} (λ t. refl) (λ t. data-only v b)
+
+-- passed over, or obeyed
+module _ (f : Frame) (lf cr : Bool) (byte : ℕ) {b : Screen} where
+  pub data-passed : ((lineTakesKeys f && not lf) && (cr && eqb byte 10)) ≡ true → Changes (dataEffect (view f (b .attrs)) lf cr byte) b f (b .chars)
+  unfolding dataEffect changedAll
+  data-passed e = rw e (record { frame = refl; characters = refl })
+
+  pub data-obeyed : {f′ : Frame} {chars : List ℕ} → ((lineTakesKeys f && not lf) && (cr && eqb byte 10)) ≡ false
+      → Changes (hostData (view f (b .attrs)) byte) b f′ chars → Changes (dataEffect (view f (b .attrs)) lf cr byte) b f′ chars
+  unfolding dataEffect
+  data-obeyed e c = rw e c
 
 pub data-applies : (f : Frame) (lf cr : Bool) (byte : ℕ) {f′ : Frame} {b : Screen} {chars reply : List ℕ} {at : ℕ}
     → Changes (dataEffect (view f (b .attrs)) lf cr byte) b f′ chars

@@ -66,18 +66,22 @@ fn take_all(
         if reply.len() - written < room {
             break;
         }
-        let inside = in_message(reader.phase);
+        let phase = reader.phase;
+        let inside = in_message(phase);
         if inside {
-            let one = take_byte(frame, reader, pad, input[taken], reply, written);
+            let byte = input[taken];
+            taken += 1;
+            let one = take_byte(frame, reader, pad, byte, reply, written);
             reader = one.reader;
             pad = one.pad;
-            taken += 1;
             written = one.written;
             continue;
         }
-        let lf = prints_lf(pad.values);
+        let values = pad.values;
+        let lf = prints_lf(values);
         let turn = take_turn(frame, reader, lf, input, taken, chars, attrs, reply, written);
-        pad = pad_told(frame, pad, turn.event);
+        let event = turn.event;
+        pad = pad_told(frame, pad, event);
         frame = turn.frame;
         reader = turn.reader;
         taken = turn.end;

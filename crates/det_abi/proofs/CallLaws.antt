@@ -4,22 +4,24 @@ use mathlib.Core.Bool.{Bool, true, false, not}
 use mathlib.Core.List.{List, []}
 use Prim.Native.Nat.{ℕ, _≤_}
 use native.Mathlib.Omega.{arith}
-use borrow.Author.Tests.{ltb-false, lt-leb, eq-eqb, ne-eqb}
+use borrow.Author.Tests.{ltb-true, ltb-false, lt-ltb, le-ltb, lt-leb, eq-eqb, ne-eqb}
 use lib.Dec.{leb, ltb}
 use lib.ListN.{length}
-use Rattle.words.proofs.Laws.{true-or-false, and-false}
+use Rattle.words.proofs.Laws.{true-or-false, and-right, and-false}
 use Rattle.rules.specs.declared.Session.{Session}
+use Rattle.rules.specs.declared.Frame.{Frame}
 use Rattle.rules.specs.declared.Answer.{Answer}
 use Rattle.rules.specs.declared.Refusal.{Refusal}
 use Rattle.rules.specs.declared.Key.the-variants.{Meaningless}
-use Rattle.rules.specs.Session.{Screen, State, freshFrame, state}
+use Rattle.rules.specs.Session.{Screen, State, lineTakesKeys, freshFrame, state}
 use Rattle.rules.specs.Refusal.{numberOf, isTaken, verdict, sizeTests}
 use Rattle.rules.specs.Key.{keyOf}
+use Rattle.rules.specs.Pad.{takesKey}
 use Rattle.rules.specs.Operation.{Outcome, outcome, unless, hostRefusal, hostBytes, keyRefusal, oneKey, opened}
 use Rattle.screen.proofs.TestLaws.{failing, passing}
-use Rattle.det_abi.specs.Layout.{sessionLength, isSession, encoded, decoded}
+use Rattle.layout.specs.Layout.{sessionLength, isSession, encoded, decoded}
 use Rattle.det_abi.specs.Calls.{Result, result, told, noSession, provided, openCall, hostCall, keyCall, keyByte, Gives}
-use Rattle.det_abi.proofs.LayoutLaws.{encoded-decoded}
+use Rattle.layout.proofs.LayoutLaws.{encoded-decoded}
 
 -- ---- keys that are no byte
 
@@ -41,9 +43,21 @@ capped : (k : ℕ) → keyOf (keyByte k) ≡ keyOf k
 unfolding keyOf
 capped k = true-or-false (ltb k 256) (λ t. rw t) (λ f. rw f (sym (no-meaning k (ltb-false k 256 f))))
 
+-- the edit line takes neither
+line-capped : (f : Frame) (k : ℕ) → takesKey f (keyByte k) ≡ takesKey f k
+line-capped f k =
+    true-or-false (ltb k 256) (λ t. rw t)
+    (λ l. rw (l, le-ltb k 128 (omega (arith, ltb-false k 256 l))))
+
+-- and one that it takes is a byte
+taken-byte : (f : Frame) (k : ℕ) → takesKey f k ≡ true → keyByte k ≡ k
+taken-byte f k t = rw (lt-ltb k 256 (omega (arith, ltb-true k 128 (and-right (lineTakesKeys f) _ t))))
+
 key-capped : (s : State) (reply : List ℕ) (k : ℕ) → oneKey s reply (keyByte k) ≡ oneKey s reply k
 unfolding oneKey
-key-capped s reply k = rw (capped k)
+key-capped s reply k =
+    let f = s .session .frame in
+    true-or-false (takesKey f k) (λ t. rw (taken-byte f k t)) (λ l. rw (line-capped f k, l, capped k))
 
 -- ---- what a call returns and leaves
 

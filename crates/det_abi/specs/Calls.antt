@@ -10,7 +10,7 @@ use Rattle.rules.specs.declared.Answer.{Answer}
 use Rattle.rules.specs.Session.{Screen, state}
 use Rattle.rules.specs.Refusal.{numberOf}
 use Rattle.rules.specs.Operation.{Outcome, opened, hostBytes, oneKey}
-use Rattle.det_abi.specs.Layout.{sessionLength, encoded, isSession, decoded}
+use Rattle.layout.specs.Layout.{sessionLength, encoded, isSession, decoded}
 
 -- the number answered, the session's bytes, the two counts, and the lent buffers afterwards
 pub record Result : Type 0 where

@@ -5,17 +5,17 @@ ghost use mathlib.Core.Path.{_≡_};
 ghost use mathlib.Core.List.{[]};
 ghost use lib.ListN.{length};
 ghost use Rattle.rules.specs.Refusal.{numberOf};
-ghost use Rattle.det_abi.specs.Layout.{sessionLength, encoded};
+ghost use Rattle.layout.specs.Layout.{sessionLength, encoded};
 ghost use Rattle.command.specs.Frame.{lent};
 ghost use Rattle.det_abi.specs.Calls.{result, openCall, hostCall, keyCall, keyByte, Gives};
-use crate::layout::SESSION_LENGTH;
-use crate::layout::decode;
-use crate::layout::encode;
-use crate::layout::is_session;
 use admit::number::number_of;
 use admit::open::open;
 use det::operation::host_bytes;
 use det::operation::key;
+use layout::SESSION_LENGTH;
+use layout::decode;
+use layout::encode;
+use layout::is_session;
 use rules::Answer;
 
 const NO_SESSION: u8 = 255;
@@ -58,7 +58,7 @@ fn key_byte(code: u32) -> u8
     if code < 256 { code as u8 } else { 255 }
 }
 
-// Open. The session's place is 15 bytes, whatever stands there.
+// Open. The session's place is 206 bytes, whatever stands there.
 #[no_mangle]
 pub extern "C" fn det_open(
     width: usize,

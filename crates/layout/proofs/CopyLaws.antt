@@ -1,7 +1,12 @@
 -- Laws of what the code reads and writes.
-use Rattle.layout.proofs.Kit.{_≡_, refl, sym, _∙_, List, [], _∷_, _++_, append-nil, ℕ, zero, suc, _+_, _≤_, _<_, zero-add, arith, length, take, drop, replicate, length-take, length-replicate, drop-of-length-le, sets, sets-eq, length-sets, getD-take, getD-drop, paste, take-length, tabulate, tabulated, eq-eqb, ne-eqb, Emitted, emitted-then, emitted-whole}
+use Rattle.layout.proofs.Kit.{_≡_, refl, sym, _∙_, List, [], _∷_, _++_, append-nil, ℕ, zero, suc, _+_, _≤_, _<_, zero-add, arith}
+use Rattle.layout.proofs.Kit.{length, take, drop, replicate, length-take, length-replicate, drop-of-length-le, getD-take, getD-drop}
+use Rattle.layout.proofs.Kit.{sets, sets-eq, length-sets, paste, take-length, tabulate, tabulated}
+use Rattle.layout.proofs.Kit.{Emitted, emitted-then, emitted-whole}
 use Rattle.rules.specs.declared.Session.{Session}
-use Rattle.layout.specs.Layout.{sessionLength, byteAt, bytesFrom, frameBytes, readerBytes, padBytes, encoded, stored, decoded, layouts}
+use Rattle.layout.specs.Layout.{sessionLength, byteAt, bytesFrom, frameBytes, readerBytes, padBytes, encoded, stored}
+use Rattle.layout.specs.Layout.{decoded, layouts}
+use Rattle.layout.proofs.LayoutLaws.{stored-there}
 
 -- ---- what the code reads
 
@@ -17,7 +22,8 @@ zeros-behind (x ∷ xs) m n zero = refl
 zeros-behind (x ∷ xs) m n (suc k) = zeros-behind xs m n k
 
 -- bytes that were copied over zeros
-over-zeros : (f : ℕ → ℕ) (xs : List ℕ) (n : ℕ) → length xs ≤ n → ((k : ℕ) → k < n → byteAt xs k ≡ f k) → sets (replicate n 0) 0 xs ≡ tabulate f 0 n
+over-zeros : (f : ℕ → ℕ) (xs : List ℕ) (n : ℕ) → length xs ≤ n → ((k : ℕ) → k < n → byteAt xs k ≡ f k)
+    → sets (replicate n 0) 0 xs ≡ tabulate f 0 n
 over-zeros f xs n h e =
     tabulated f (sets (replicate n 0) 0 xs) n 0 (length-sets (replicate n 0) 0 xs ∙ length-replicate n 0)
     (λ k q. rw (sets-eq xs (replicate n 0) 0 (rw length-replicate (omega arith))) (zeros-behind xs (0 + length xs) n k ∙ e k q))
@@ -44,17 +50,12 @@ module _ (bytes : List ℕ) where
 pub pasted-all : (xs buf : List ℕ) (at : ℕ) → at + length xs ≤ length buf → paste buf at xs (length xs) ≡ sets buf at xs
 pasted-all xs buf at h = rw (take-length xs) (sym (sets-eq xs buf at h))
 
--- the frame, the reader and the PAD stand over as many bytes
+-- the frame, the reader and the PAD, one behind the other over as many bytes
 pub session-stored : (s : Session) {b b₁ b₂ b₃ : List ℕ} → length b ≡ sessionLength → Emitted b 0 (frameBytes (s .frame)) b₁ 8
     → Emitted b₁ 8 (readerBytes (s .reader)) b₂ 18 → Emitted b₂ 18 (padBytes (s .pad)) b₃ 206 → b₃ ≡ stored s b
-unfolding encoded stored
+unfolding encoded
 session-stored s {b} l f r p =
     let all = emitted-then f (emitted-then r p) in
     let long : length (encoded s) ≡ length b = omega (arith, all .next, l) in
-    rw (eq-eqb (length b) sessionLength l)
-    (emitted-whole (omega (arith, long)) all ∙ rw (drop-of-length-le b {i = length (encoded s)} (omega (arith, long))) (append-nil (encoded s)))
-
--- no place for a session
-pub session-left : (s : Session) (b : List ℕ) → (length b ≡ sessionLength → ⊥) → b ≡ stored s b
-unfolding stored
-session-left s b h = rw (ne-eqb (length b) sessionLength h)
+    let rest : drop (length (encoded s)) b ≡ [] = drop-of-length-le b {i = length (encoded s)} (omega (arith, long)) in
+    emitted-whole (omega (arith, long)) all ∙ rw (rest, stored-there s b l) (append-nil (encoded s))

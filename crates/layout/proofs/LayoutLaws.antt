@@ -1,5 +1,7 @@
 -- Laws of the layout: a session and its bytes determine each other.
-use Rattle.layout.proofs.Kit.{_≡_, refl, sym, subst, _∙_, Bool, true, false, _&&_, _||_, List, [], _∷_, _++_, ℕ, zero, suc, _+_, arith, eqb, leb, length, leb-true, eqb-true, eqb-false, le-leb, tabulate, true-or-false, and-left, and-right, tabulated}
+use Rattle.layout.proofs.Kit.{_≡_, refl, sym, subst, _∙_, Bool, true, false, _&&_, _||_, List, [], _∷_, _++_, ℕ, zero, suc, arith}
+use Rattle.layout.proofs.Kit.{eqb, leb, leb-true, eqb-true, eqb-false, le-leb, eq-eqb, ne-eqb, true-or-false, and-left, and-right}
+use Rattle.layout.proofs.Kit.{length, tabulate, tabulated}
 use Rattle.telnet.specs.declared.Verb.{Verb}
 use Rattle.telnet.specs.declared.Verb.the-variants.{Will, Wont, Do, Dont}
 use Rattle.telnet.specs.declared.Phase.{Phase}
@@ -11,16 +13,16 @@ use Rattle.pad.specs.Message.{messages}
 use Rattle.pad.specs.Line.{lines}
 use Rattle.rules.specs.declared.Session.{Session}
 use Rattle.rules.specs.Session.{fresh}
-use Rattle.layout.specs.Layout.{sessionLength, version, bitOf, verbNumber, phaseBytes, stageAt, stageBytes, encoded, byteAt, bytesFrom, isFlag, hasFlags, isPhase, isStage, hasPlaces, isSession, phaseOf, stageOf, frameIn, readerIn, padIn, decoded, layouts}
+use Rattle.layout.specs.Layout.{sessionLength, version, bitOf, phaseBytes, stageAt, stageBytes, encoded, stored, byteAt, bytesFrom}
+use Rattle.layout.specs.Layout.{isFlag, hasFlags, isPhase, isStage, hasPlaces, isSession}
+use Rattle.layout.specs.Layout.{phaseOf, stageOf, frameIn, readerIn, padIn, decoded, layouts}
 
 -- n bytes are those that are read from them
-pub read-whole : (xs : List ℕ) (n : ℕ) → length xs ≡ n → xs ≡ tabulate (byteAt xs) 0 n
-read-whole xs n e = tabulated (byteAt xs) xs n 0 e (λ k h. refl)
+abbrev Spelled : List ℕ → ℕ → Type 0
+Spelled xs n = xs ≡ tabulate (byteAt xs) 0 n
 
-pub six : (xs : List ℕ) → length xs ≡ 6
-    → xs ≡ byteAt xs 0 ∷ byteAt xs 1 ∷ byteAt xs 2 ∷ byteAt xs 3 ∷ byteAt xs 4 ∷ byteAt xs 5 ∷ []
-unfolding tabulate
-six xs e = read-whole xs 6 e
+read-whole : (xs : List ℕ) (n : ℕ) → length xs ≡ n → Spelled xs n
+read-whole xs n e = tabulated (byteAt xs) xs n 0 e (λ k h. refl)
 
 -- ---- from a session to its bytes and back
 
@@ -30,7 +32,9 @@ flag-back true = (refl, refl)
 flag-back false = (refl, refl)
 
 -- so is where the reader stands
-phase-back : (p : Phase) → let at = phaseBytes p in (phaseOf (at .number) (at .option) ≡ p) × (isPhase (at .number) (at .option) ≡ true)
+phase-back : (p : Phase)
+    → let at = phaseBytes p in
+    (phaseOf (at .number) (at .option) ≡ p) × (isPhase (at .number) (at .option) ≡ true)
 unfolding layouts
 phase-back Rest = (refl, refl)
 phase-back Iac = (refl, refl)
@@ -44,7 +48,9 @@ phase-back (Inside option) = (refl, refl)
 phase-back (InsideIac option) = (refl, refl)
 
 -- and what is next in a message
-stage-back : (s : Stage) → let at = stageBytes s in (stageOf (at .number) (at .code) (at .parameter) ≡ s) × (isStage (at .number) (at .code) (at .parameter) ≡ true)
+stage-back : (s : Stage)
+    → let at = stageBytes s in
+    (stageOf (at .number) (at .code) (at .parameter) ≡ s) × (isStage (at .number) (at .code) (at .parameter) ≡ true)
 unfolding layouts
 stage-back Code = (refl, refl)
 stage-back (Parameter code) = (refl, refl)
@@ -58,28 +64,76 @@ pub record Sized (s : Session) : Type 0 where
   pub copy : length (s .pad .message .copy .held) ≡ 28
 
 module _ (s : Session) (z : Sized s) where
+  held : Spelled (s .reader .held .bytes) 6
+  held = read-whole _ 6 (z .held)
+
+  values : Spelled (s .pad .values .held) 28
+  values = read-whole _ 28 (z .values)
+
+  line : Spelled (s .pad .line .bytes) 128
+  line = read-whole _ 128 (z .line)
+
+  copy : Spelled (s .pad .message .copy .held) 28
+  copy = read-whole _ 28 (z .copy)
+
   -- a session's bytes are 206
   pub encoded-length : length (encoded s) ≡ sessionLength
   unfolding encoded tabulate
-  encoded-length =
-      rw (read-whole (s .reader .held .bytes) 6 (z .held), read-whole (s .pad .values .held) 28 (z .values), read-whole (s .pad .line .bytes) 128 (z .line), read-whole (s .pad .message .copy .held) 28 (z .copy))
+  encoded-length = rw (held, values, line, copy)
 
   -- they are those of a session
   pub encoded-session : isSession (encoded s) ≡ true
   unfolding isSession encoded tabulate
   encoded-session =
-      rw (encoded-length, read-whole (s .reader .held .bytes) 6 (z .held), read-whole (s .pad .values .held) 28 (z .values), read-whole (s .pad .line .bytes) 128 (z .line), flag-back (s .frame .det) .1, flag-back (s .frame .x3) .1, flag-back (s .frame .suppressed) .1, flag-back (s .reader .cr) .1, phase-back (s .reader .phase) .1, stage-back (s .pad .message .stage) .1)
+      rw (
+        encoded-length,
+        held,
+        values,
+        line,
+        flag-back (s .frame .det) .1,
+        flag-back (s .frame .x3) .1,
+        flag-back (s .frame .suppressed) .1,
+        flag-back (s .reader .cr) .1,
+        phase-back (s .reader .phase) .1,
+        stage-back (s .pad .message .stage) .1,
+      )
+
+  frame-back : frameIn (encoded s) ≡ s .frame
+  unfolding frameIn encoded
+  frame-back = rw (flag-back (s .frame .det) .0, flag-back (s .frame .x3) .0, flag-back (s .frame .suppressed) .0)
+
+  reader-back : readerIn (encoded s) ≡ s .reader
+  unfolding readerIn encoded tabulate
+  reader-back = rw (phase-back (s .reader .phase) .0, held, flag-back (s .reader .cr) .0) (rw (← held))
+
+  values-back : bytesFrom (encoded s) 18 28 ≡ s .pad .values .held
+  unfolding encoded tabulate
+  values-back = rw (held, values)
+
+  count-back : byteAt (encoded s) 46 ≡ s .pad .line .len
+  unfolding encoded tabulate
+  count-back = rw (held, values)
+
+  line-back : bytesFrom (encoded s) 47 128 ≡ s .pad .line .bytes
+  unfolding encoded tabulate
+  line-back = rw (held, values, line)
+
+  next-back : stageOf (byteAt (encoded s) 175) (byteAt (encoded s) 176) (byteAt (encoded s) 177) ≡ s .pad .message .stage
+  unfolding encoded tabulate
+  next-back = rw (held, values, line) (stage-back (s .pad .message .stage) .0)
+
+  copy-back : bytesFrom (encoded s) 178 28 ≡ s .pad .message .copy .held
+  unfolding encoded tabulate
+  copy-back = rw (held, values, line, copy)
+
+  pad-back : padIn (encoded s) ≡ s .pad
+  unfolding padIn
+  pad-back = rw (values-back, count-back, line-back, next-back, copy-back)
 
   -- and give it back
   pub decoded-encoded : decoded (encoded s) ≡ s
-  unfolding decoded encoded frameIn readerIn padIn tabulate
-  decoded-encoded =
-      let held = read-whole (s .reader .held .bytes) 6 (z .held) in
-      let values = read-whole (s .pad .values .held) 28 (z .values) in
-      let line = read-whole (s .pad .line .bytes) 128 (z .line) in
-      let copy = read-whole (s .pad .message .copy .held) 28 (z .copy) in
-      rw (flag-back (s .frame .det) .0, flag-back (s .frame .x3) .0, flag-back (s .frame .suppressed) .0, phase-back (s .reader .phase) .0, held, values, line, copy, flag-back (s .reader .cr) .0, stage-back (s .pad .message .stage) .0)
-      (rw (← held, ← values, ← line, ← copy))
+  unfolding decoded
+  decoded-encoded = rw (frame-back, reader-back, pad-back)
 
 -- ---- from bytes to a session and back
 
@@ -116,8 +170,8 @@ module _ (n o : ℕ) (h : isPhase n o ≡ true) where
       true-or-false (eqb n 8) (λ q. rw (eqb-true n 8 q))
       (λ q. let nine : n ≡ 9 = omega (arith, leb-true 8 n t, leb-true n 9 known, eqb-false n 8 q) in rw nine))
       (λ f.
-      let outside : eqb ((phaseBytes (phaseOf n o)) .option) 0 ≡ true = rw f at (up-to (λ k. leb 8 k || eqb ((phaseBytes (phaseOf k o)) .option) 0) 9 n refl known) in
-      eqb-true _ 0 outside ∙ sym (eqb-true o 0 (rw f at (and-right (leb n 9) _ h))))
+      let none = up-to (λ k. leb 8 k || eqb ((phaseBytes (phaseOf k o)) .option) 0) 9 n refl known in
+      eqb-true _ 0 (rw f at none) ∙ sym (eqb-true o 0 (rw f at (and-right (leb n 9) _ h))))
 
 -- and what is next in a message
 stage-kept : (n c p : ℕ) → isStage n c p ≡ true → stageBytes (stageOf n c p) ≡ stageAt n c p
@@ -163,15 +217,33 @@ module _ (b : List ℕ) (h : isSession b ≡ true) where
   encoded-decoded =
       let phase = and-left (isPhase (at 8) (at 9)) _ places in
       let stage = and-right (isPhase (at 8) (at 9)) _ places in
-      rw (flag-kept (at 5) (flags .0), flag-kept (at 6) (flags .1), flag-kept (at 7) (flags .2), flag-kept (at 17) (flags .3), number-kept (at 8) (at 9) phase, option-kept (at 8) (at 9) phase, stage-kept (at 175) (at 176) (at 177) stage)
+      rw (
+        flag-kept (at 5) (flags .0),
+        flag-kept (at 6) (flags .1),
+        flag-kept (at 7) (flags .2),
+        flag-kept (at 17) (flags .3),
+        number-kept (at 8) (at 9) phase,
+        option-kept (at 8) (at 9) phase,
+        stage-kept (at 175) (at 176) (at 177) stage,
+      )
       (subst (λ (v : ℕ). v ∷ bytesFrom b 1 205 ≡ b) version-right (sym (read-whole b 206 session-length)))
 
--- ---- open
+-- ---- what a caller keeps
 
--- The session that an open returns, refused or not, is one that a caller can keep.
+-- the session that an open returns, refused or not, has bytes that are one
 pub fresh-sized : (m n : ℕ) → Sized (fresh m n)
 unfolding parameters messages lines
 fresh-sized m n = record { held = refl; values = refl; line = refl; copy = refl }
 
 pub refused-open : isSession (encoded (fresh 0 0)) ≡ true
 refused-open = encoded-session (fresh 0 0) (fresh-sized 0 0)
+
+-- a place for a session holds one afterwards, and no other place changes
+module _ (s : Session) (b : List ℕ) where
+  pub stored-there : length b ≡ sessionLength → stored s b ≡ encoded s
+  unfolding stored
+  stored-there e = rw (eq-eqb (length b) sessionLength e)
+
+  pub stored-elsewhere : (length b ≡ sessionLength → ⊥) → stored s b ≡ b
+  unfolding stored
+  stored-elsewhere h = rw (ne-eqb (length b) sessionLength h)

@@ -14,7 +14,7 @@
 --   175         what is next in a message of option 30: 0 its code, 1 a parameter, 2 a value
 --   176, 177    the message's code, 0 where it is next; the parameter that waits for its value, 0 where none does
 --   178 to 205  the message's copy of the 28 values
-use mathlib.Core.Bool.{Bool, _&&_, _||_}
+use mathlib.Core.Bool.{Bool, true, false, _&&_, _||_}
 use mathlib.Core.List.{List, [], _∷_, _++_}
 use Prim.Native.Nat.{ℕ, _+_}
 use lib.Dec.{leb, eqb}
@@ -47,7 +47,8 @@ version = 2
 -- ---- from a session to its bytes
 
 abbrev pub bitOf : Bool → ℕ
-bitOf b = if b then 1 else 0
+bitOf false = 0
+bitOf true = 1
 
 abbrev pub phaseAt : ℕ → ℕ → PhaseBytes
 phaseAt number option = record { number = number; option = option }
@@ -106,7 +107,7 @@ padBytes p = p .values .held ++ (lineBytes (p .line) ++ messageBytes (p .message
 unfoldable pub encoded : Session → List ℕ
 encoded s = frameBytes (s .frame) ++ (readerBytes (s .reader) ++ padBytes (s .pad))
 
--- what a place for a session holds afterwards: one of another length is left as it is
+-- what a place for a session then holds: one of another length is left as it is
 unfoldable pub stored : Session → List ℕ → List ℕ
 stored s bytes = if eqb (length bytes) sessionLength then encoded s else bytes
 
@@ -119,6 +120,7 @@ byteAt bytes i = getD bytes i 0
 abbrev pub bytesFrom : List ℕ → ℕ → ℕ → List ℕ
 bytesFrom bytes from count = tabulate (λ k. byteAt bytes (from + k)) 0 count
 
+-- the four flags are 0 or 1
 abbrev pub isFlag : ℕ → Bool
 isFlag b = leb b 1
 
@@ -136,6 +138,7 @@ abbrev pub isStage : ℕ → ℕ → ℕ → Bool
 isStage number code parameter =
     if eqb number 0 then eqb code 0 && eqb parameter 0 else if eqb number 1 then eqb parameter 0 else eqb number 2
 
+-- both
 abbrev pub hasPlaces : List ℕ → Bool
 hasPlaces bytes = let at = byteAt bytes in isPhase (at 8) (at 9) && isStage (at 175) (at 176) (at 177)
 

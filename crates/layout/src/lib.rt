@@ -1,25 +1,26 @@
 // A session as a byte string: 206 bytes that the caller keeps. The table at the head of specs/Layout.antt says what stands where.
-// Nothing here asks anything of its caller.
+// The three functions ask nothing of their caller.
 ghost use mathlib.Core.Path.{_≡_};
 ghost use Rattle.layout.specs.Layout.{isSession, decoded, stored};
 
 mod copy;
 mod number;
 mod read;
-mod test;
+mod valid;
 mod write;
 
 use read::padded;
 use read::session_in;
 use rules::Session;
-use test::has_flags;
-use test::has_places;
+use valid::has_flags;
+use valid::has_places;
 use write::put_frame;
 use write::put_pad;
 use write::put_reader;
 
 pub const SESSION_LENGTH: usize = 206;
 
+// The 15 bytes of before had none.
 pub(crate) const VERSION: u8 = 2;
 
 // Are the bytes those of a session?
@@ -50,7 +51,7 @@ pub fn decode(bytes: &[u8]) -> Session
     session_in(&whole)
 }
 
-// Writes the session's bytes, where there is room for them and no more.
+// Writes the session's bytes over those that are there. A place of another length is left as it is.
 pub fn encode(session: Session, bytes: &mut [u8])
     ensures { λ _. ⌜ now (bytes .exit) ≡ stored session (now (bytes .entry)) ⌝ }
 {

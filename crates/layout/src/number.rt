@@ -1,6 +1,6 @@
-// Flags, the reader's places and a message's stages as numbers, and back.
+// The reader's places and a message's stages as numbers, and back.
 ghost use mathlib.Core.Path.{_≡_};
-ghost use Rattle.layout.specs.Layout.{bitOf, verbNumber, phaseBytes, phaseOf, stageBytes, stageOf};
+ghost use Rattle.layout.specs.Layout.{verbNumber, phaseBytes, phaseOf, stageBytes, stageOf};
 use pad::message::Stage;
 use telnet::Phase;
 use telnet::Verb;
@@ -16,13 +16,6 @@ pub struct StageBytes {
     pub number: u8,
     pub code: u8,
     pub parameter: u8,
-}
-
-// A flag as a byte.
-pub(crate) fn bit(b: bool) -> u8
-    ensures { λ r. ⌜ r ≡ bitOf b ⌝ }
-{
-    if b { 1 } else { 0 }
 }
 
 // Where the reader stands after IAC and this verb.

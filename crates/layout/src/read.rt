@@ -29,6 +29,16 @@ pub(crate) fn padded(bytes: &[u8]) -> [u8; SESSION_LENGTH]
     whole
 }
 
+// The six held bytes.
+fn held_in(bytes: &[u8]) -> [u8; 6]
+    requires { ⌜ sessionLength ≤ length (now bytes) ⌝ }
+    ensures { λ r. ⌜ r ≡ bytesFrom (now (bytes .entry)) 11 6 ⌝ }
+{
+    let mut held = [0; 6];
+    copy(&bytes[11..17], &mut held, 0);
+    held
+}
+
 // The 28 values from a place on.
 fn values_in(bytes: &[u8], from: usize) -> [u8; 28]
     requires { ⌜ from + 28 ≤ length (now bytes) ⌝ }
@@ -73,14 +83,7 @@ fn reader_in(bytes: &[u8]) -> Reader
     Reader {
         phase: phase_of(bytes[8], bytes[9]),
         held: Held {
-            bytes: [
-                bytes[11],
-                bytes[12],
-                bytes[13],
-                bytes[14],
-                bytes[15],
-                bytes[16],
-            ],
+            bytes: held_in(bytes),
             count: bytes[10],
         },
         cr: bytes[17] == 1,

@@ -5,7 +5,6 @@ ghost use Rattle.words.specs.Stored.{Emitted};
 ghost use Rattle.layout.specs.Layout.{sessionLength, frameBytes, readerBytes, lineBytes, messageBytes, padBytes};
 use crate::VERSION;
 use crate::copy::copy;
-use crate::number::bit;
 use crate::number::phase_bytes;
 use crate::number::stage_bytes;
 use pad::line::EditLine;
@@ -24,9 +23,9 @@ pub(crate) fn put_frame(frame: Frame, bytes: &mut [u8])
     bytes[2] = frame.height;
     bytes[3] = frame.cursor.x.0;
     bytes[4] = frame.cursor.y.0;
-    bytes[5] = bit(frame.det);
-    bytes[6] = bit(frame.x3);
-    bytes[7] = bit(frame.suppressed);
+    bytes[5] = frame.det as u8;
+    bytes[6] = frame.x3 as u8;
+    bytes[7] = frame.suppressed as u8;
 }
 
 pub(crate) fn put_reader(reader: Reader, bytes: &mut [u8])
@@ -40,7 +39,7 @@ pub(crate) fn put_reader(reader: Reader, bytes: &mut [u8])
     bytes[10] = reader.held.count;
     let held = reader.held.bytes;
     copy(&held, bytes, 11);
-    bytes[17] = bit(reader.cr);
+    bytes[17] = reader.cr as u8;
 }
 
 // The edit line: its length, then its bytes.

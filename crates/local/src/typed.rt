@@ -26,13 +26,13 @@ use text::data::take_data;
 pub fn takes_key(frame: Frame, code: u8) -> bool
     ensures { λ r. ⌜ r ≡ takesKey frame code ⌝ }
 {
-    if !frame.x3 {
-        return false;
-    }
     if frame.det {
         return false;
     }
-    code < 128
+    if frame.x3 {
+        return code < 128;
+    }
+    false
 }
 
 // Refusal 10.

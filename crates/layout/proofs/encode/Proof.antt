@@ -1,11 +1,12 @@
 -- `encode` meets its contract: the parts one behind the other, where the length is right.
-use Rattle.layout.proofs.Kit.{needs}
-use Rattle.layout.proofs.CopyLaws.{session-stored, session-left}
+use Rattle.layout.proofs.Kit.{sym, needs}
+use Rattle.layout.proofs.LayoutLaws.{stored-elsewhere}
+use Rattle.layout.proofs.CopyLaws.{session-stored}
 use Rattle.layout.proofs.encode.Statement.{statement}
 use Rattle.layout.proofs.encode.Tie as tie
 
-left : tie.Need-returns
-left c = session-left _ _ (c .if1 .taken)
+elsewhere : tie.Need-returns
+elsewhere c = sym (stored-elsewhere _ _ (c .if1 .taken))
 
 written : tie.Need-returns-2
 written c =
@@ -16,4 +17,4 @@ written c =
     session-stored (t .before .before .args .session) (t .if1 .left) (f .put-frame .ensures) (r .put-reader .ensures) (p .put-pad .ensures)
 
 pub encode-spec : {M : Type 1} → statement M
-encode-spec = tie.close (tie.spec left (search needs) (search needs) (search needs) (search needs) written)
+encode-spec = tie.close (tie.spec elsewhere (search needs) (search needs) (search needs) (search needs) written)

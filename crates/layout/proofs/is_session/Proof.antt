@@ -16,15 +16,16 @@ no-flags : tie.Need-returns-3
 unfolding isSession
 no-flags c =
     let v = c .before .before in
-    rw (eq-eqb _ 206 (v .before .before .if1 .left), eq-eqb _ 2 (v .if2 .left), sym (c .before .has-flags .ensures) ∙ not-true _ (c .if3 .taken))
+    let flags = sym (c .before .has-flags .ensures) ∙ not-true _ (c .if3 .taken) in
+    rw (eq-eqb _ 206 (v .before .before .if1 .left), eq-eqb _ 2 (v .if2 .left), flags)
 
 places : tie.Need-returns-4
 unfolding isSession
 places c =
     let f = c .before in
     let v = f .before .before in
-    c .has-places .ensures
-    ∙ rw (eq-eqb _ 206 (v .before .before .if1 .left), eq-eqb _ 2 (v .if2 .left), sym (f .before .has-flags .ensures) ∙ not-false _ (f .if3 .left))
+    let flags = sym (f .before .has-flags .ensures) ∙ not-false _ (f .if3 .left) in
+    c .has-places .ensures ∙ rw (eq-eqb _ 206 (v .before .before .if1 .left), eq-eqb _ 2 (v .if2 .left), flags)
 
 pub is-session-spec : {M : Type 1} → statement M
 is-session-spec =

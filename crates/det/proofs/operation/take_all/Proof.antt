@@ -1,5 +1,5 @@
 -- `take_all` meets its contract. The loop keeps `Taking`: the bytes taken did what the rules say.
-use mathlib.Core.Path.{_≡_, refl}
+use mathlib.Core.Path.{_≡_, refl, sym, _∙_}
 use Prim.Native.Nat.{_-_}
 use native.Mathlib.Omega.{arith}
 use borrow.Author.Needs.{needs}
@@ -7,7 +7,8 @@ use lib.ListN.{length}
 use Rattle.rules.proofs.Running.{taken-end, taken-full}
 use Rattle.rules.specs.Session.{session, screen, state}
 use Rattle.det.specs.inner.Take.{Taking}
-use Rattle.det.proofs.HostLaws.{taking-none, taking-then, taking-room, taking-accepts, taking-done}
+use Rattle.det.proofs.HostLaws.{accepts-turn, taking-none, taking-then, taking-room, taking-accepts, taking-done}
+use Rattle.det.proofs.MessageLaws.{message-taking}
 use Rattle.det.proofs.operation.take_all.Statement.{statement}
 use Rattle.det.proofs.operation.take_all.Tie as tie
 
@@ -15,31 +16,56 @@ pub take-all-spec : {M : Type 1} → statement M
 take-all-spec =
     tie.close
     (tie.spec
-    (λ input chars₀ attrs₀ reply₀ room frame₀ reader₀ taken₀ written₀ chars attrs reply frame reader taken written.
-    Taking (state (session frame₀ reader₀) (screen chars₀ attrs₀)) input 0 reply₀ 0
-    (state (session frame reader) (screen chars attrs)) taken reply written
+    (λ input chars₀ attrs₀ reply₀ room frame₀ reader₀ pad₀ taken₀ written₀ chars attrs reply frame reader pad taken written.
+    Taking (state (session frame₀ reader₀ pad₀) (screen chars₀ attrs₀)) input 0 reply₀ 0
+    (state (session frame reader pad) (screen chars attrs)) taken reply written
     × (length chars ≡ length chars₀) × (length attrs ≡ length attrs₀) × (length reply ≡ length reply₀))
-    (λ input chars₀ attrs₀ reply₀ room frame₀ reader₀ taken₀ written₀ chars attrs reply frame reader taken written. length input - taken)
+    (λ input chars₀ attrs₀ reply₀ room frame₀ reader₀ pad₀ taken₀ written₀ chars attrs reply frame reader pad taken written. length input - taken)
     (λ c κs. search needs)
     (λ c. (taking-none (omega arith) (omega arith), refl, refl, refl))
-    (λ c. search needs)
-    (λ c κs. let i = c .before .before .before in
-    let l = i .before .before in (
-      taking-accepts (l .loop .inv .0) (l .before .before .before .before .before .before .before .before .pre)
-          (omega (arith, l .before .before .before .reply-room .ensures, i .if1 .left)),
-      i .before .loop-test .taken,
+    (λ c. search needs) (λ c κs. search needs) (λ c. search needs) (λ c. search needs) (λ c κs. search needs) (λ c. search needs)
+    (λ c. let t = c .before .before .before .before in
+    let m = t .before .before .before in
+    let i = m .before .before in
+    let l = i .before .before in
+    let start = l .before .before .before .before .before .before .before .before .before in
+    let a = taking-accepts (l .loop .inv .0) (start .pre) (omega (arith, l .before .before .before .before .reply-room .ensures, i .if1 .left)) in (
+      taking-then (l .loop .inv .0)
+          (message-taking _ _ _ _ _ _ a (sym (m .before .in-message .ensures) ∙ m .if2 .taken) (i .before .loop-test .taken) (t .take-byte .ensures)),
+      search needs,
+      search needs,
+      search needs,
     ))
-    (λ c. let t = c .before .before .before .before .before .before .before .before in
-    omega (arith, t .take-turn .ensures .0, t .before .before .before .before .before .loop-test .taken))
-    (λ c. let t = c .before .before .before .before .before .before .before .before in (
-      taking-then (t .before .before .before .before .before .before .loop .inv .0) (t .take-turn .ensures .1),
-      search needs,
-      search needs,
+    (λ c κs. search needs)
+    (λ c κs. let m = c .before .before .before .before .before in
+    let i = m .before .before in
+    let l = i .before .before in
+    let start = l .before .before .before .before .before .before .before .before .before in
+    let a = taking-accepts (l .loop .inv .0) (start .pre) (omega (arith, l .before .before .before .before .reply-room .ensures, i .if1 .left)) in (
+      accepts-turn _ _ _ (c .before .before .before .prints-lf .result) _ (l .loop .reply) (l .loop .written) a,
+      (sym (m .before .in-message .ensures) ∙ m .if2 .left, i .before .loop-test .taken),
+    ))
+    (λ c κs. search needs)
+    (λ c. let t = c .before .before .before .before .before .before .before .before .before in
+    omega (arith, t .take-turn .ensures .0, t .before .before .before .before .before .before .before .before .before .loop-test .taken))
+    (λ c. let q = c .before .before in
+    let at = q .before .before .before in
+    let ch = at .before .before in
+    let t = ch .before .before in
+    let p = t .before .before .before .before in
+    let m = p .before .before in
+    let i = m .before .before in
+    let l = i .before .before in
+    let start = l .before .before .before .before .before .before .before .before .before in
+    let a = taking-accepts (l .loop .inv .0) (start .pre) (omega (arith, l .before .before .before .before .reply-room .ensures, i .if1 .left)) in (
+      taking-then (l .loop .inv .0) (rw (← q .pad-told .ensures) at (t .take-turn .ensures .1 _ (sym (p .prints-lf .ensures)) a)),
+      search (needs, ch .slice-known5 .given, ch .before .chars .given, l .loop .inv .1),
+      search (needs, at .slice-known6 .given, at .before .attrs .given, l .loop .inv .2),
       search needs,
     ))
     (λ c. search needs) (λ c. search needs) (λ c. search needs)
     (λ c. let l = c .before in taking-done (l .loop .inv .0) (taken-end _ _ _ _ (c .loop-test .left)))
     (λ c. search needs) (λ c. search needs) (λ c. search needs)
     (λ c. let l = c .before .before in
-    let same = taking-room (l .loop .inv .0) (l .before .before .before .before .before .before .before .before .pre) in
-    taking-done (l .loop .inv .0) (taken-full _ _ _ (omega (arith, same, l .before .before .before .reply-room .ensures, c .if1 .taken)))))
+    let same = taking-room (l .loop .inv .0) (l .before .before .before .before .before .before .before .before .before .pre) in
+    taking-done (l .loop .inv .0) (taken-full _ _ _ (omega (arith, same, l .before .before .before .before .reply-room .ensures, c .if1 .taken)))))

@@ -1,13 +1,13 @@
 -- `happen` meets its contract: data, a negotiation, an end, or an event on which nothing is done.
 use borrow.Author.Needs.{needs}
-use Rattle.rules.specs.Operation.{happening}
+use Rattle.det.specs.inner.Data.{detEffect}
 use Rattle.decide.proofs.DecideLaws.{fits-rule}
 use Rattle.det.proofs.TakeLaws.{decided-sayable, decided-applies, nothing-applies, idle, data-applies}
 use Rattle.det.proofs.take.happen.Statement.{statement}
 use Rattle.det.proofs.take.happen.Tie as tie
 
 pub happen-spec : {M : Type 1} → statement M
-unfolding happening
+unfolding detEffect
 happen-spec =
     tie.close
     (tie.spec
@@ -22,7 +22,7 @@ happen-spec =
     decided-sayable a (fits-rule _ (a .fits) (d .decide-end .ensures)) (rw (e .event3 .given .1)))
     (λ c. search needs) (λ c. search needs)
     (λ c. let d = c .before .before in
-    rw (d .before .before .before .before .event .given .1) (data-applies _ _ (d .take-data .ensures)))
+    rw (d .before .before .before .before .event .given .1) (data-applies _ _ _ _ (d .obey-data .ensures)))
     (λ c. search needs) (λ c. search needs) (λ c. search needs)
     (λ c. let a = c .before .before .before .before .before .before in
     let d = a .before .before .before .before in
@@ -35,4 +35,4 @@ happen-spec =
     let e = d .before .before .before in
     let b = e .before .before .before .before .before .pre in
     decided-applies b (fits-rule _ (b .fits) (d .decide-end .ensures)) (rw (e .event3 .given .1)) (a .apply2 .ensures))
-    (λ c. nothing-applies (idle _ _ (c .before .before .before .before .args .event) (c .match .keys4))))
+    (λ c. nothing-applies (idle _ _ _ _ (c .before .before .before .before .args .event) (c .match .keys4))))

@@ -2,7 +2,7 @@
 use mathlib.Core.Path.{refl}
 use native.Mathlib.Omega.{arith}
 use borrow.Author.Needs.{needs}
-use Rattle.det.proofs.QuietLaws.{lies, text-turn}
+use Rattle.det.proofs.QuietLaws.{lies, text-turn, joins-by}
 use Rattle.det.proofs.take.take_text.Statement.{statement}
 use Rattle.det.proofs.take.take_text.Tie as tie
 
@@ -15,7 +15,8 @@ take-text-spec =
     (λ c. lies (c .before .before .before .before .pre .1) _ (c .data-at .ensures) .onward)
     (λ c. let l = lies (c .before .before .before .before .pre .1) _ (c .data-at .ensures) in omega (arith, l .forth, l .within))
     (λ c κs. search needs) (λ c. search needs)
-    (λ c. let t = c .before .before .before in
+    (λ c p prints. let t = c .before .before .before .before in
     let s = t .before .before .before in
     let start = s .before .before .before .before in
-    text-turn (start .pre .1) _ (s .data-at .ensures) _ (start .pre .0) refl (t .host-text .ensures)))
+    let done = t .take-bytes .ensures in
+    text-turn (start .pre .1) _ (s .data-at .ensures) _ (start .pre .0) refl _ (joins-by (start .args .frame) p prints) (done .done) (done .ends)))

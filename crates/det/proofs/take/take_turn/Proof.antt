@@ -1,7 +1,7 @@
 -- `take_turn` meets its contract: a stretch, and what is told after it.
 use native.Mathlib.Omega.{arith}
 use borrow.Author.Needs.{needs}
-use Rattle.det.proofs.HostLaws.{taking-then, taking-run, accepts-run}
+use Rattle.det.proofs.HostLaws.{stretch-accepts, stretch-outside, stretch-onward, stretch-turns, then-turns}
 use Rattle.det.proofs.take.take_turn.Statement.{statement}
 use Rattle.det.proofs.take.take_turn.Tie as tie
 
@@ -12,13 +12,15 @@ take-turn-spec =
     (λ c κs. search needs) (λ c. search needs) (λ c. search needs)
     (λ c. let s = c .before .before .before .before .before in
     let start = s .before .before .before .before .before .before .before in
-    (omega (arith, start .pre .1, c .if1 .taken), taking-run _ _ _ (start .pre .0) (s .take-stretch .ensures .run)))
+    (omega (arith, start .pre .1 .1, c .if1 .taken), stretch-turns _ (s .take-stretch .ensures)))
     (λ c κs. let i = c .before .before .before in
     let s = i .before .before .before .before .before in
     let start = s .before .before .before .before .before .before .before in
-    (accepts-run _ (start .args .reply .now) (start .args .at) (start .pre .0) (s .take-stretch .ensures .run), omega (arith, i .if1 .left)))
+    let q = s .take-stretch .ensures in
+    (stretch-accepts (start .args .reply .now) q (start .pre .0), (stretch-outside (start .args .reply .now) q, omega (arith, i .if1 .left))))
     (λ c. search needs) (λ c. search needs) (λ c. search needs)
     (λ c. let t = c .before .before .before .before .before .before in
     let s = t .before .before .before .before .before .before .before .before .before in
-    let run = s .take-stretch .ensures .run in
-    (omega (arith, run .onward, t .take-told .ensures .0), taking-then (taking-run _ _ _ (s .before .before .before .before .before .before .before .pre .0) run) (t .take-told .ensures .1))))
+    let start = s .before .before .before .before .before .before .before in
+    let q = s .take-stretch .ensures in
+    (omega (arith, stretch-onward (start .args .reply .now) q, t .take-told .ensures .0), then-turns _ q _ (t .take-told .ensures .1))))

@@ -1,7 +1,7 @@
 -- `det_key` meets its contract: no session, or what `key` answers.
 use borrow.Author.Needs.{needs}
 use Rattle.screen.proofs.TestLaws.{passing}
-use Rattle.det_abi.proofs.LayoutLaws.{session-length}
+use Rattle.layout.proofs.LayoutLaws.{session-length}
 use Rattle.det_abi.proofs.CallLaws.{key-none, key-done}
 use Rattle.det_abi.proofs.calls.det_key.Statement.{statement}
 use Rattle.det_abi.proofs.calls.det_key.Tie as tie

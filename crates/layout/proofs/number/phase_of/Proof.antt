@@ -9,8 +9,17 @@ unfolding phaseOf
 inside-iac c =
     let r = c .match .rest in
     let s = r .0 .0 .0 .0 in
-    simp
-    (ne-eqb _ _ (r .1), ne-eqb _ _ (r .0 .1), ne-eqb _ _ (r .0 .0 .1), ne-eqb _ _ (r .0 .0 .0 .1), ne-eqb _ _ (s .1), ne-eqb _ _ (s .0 .1), ne-eqb _ _ (s .0 .0 .1), ne-eqb _ _ (s .0 .0 .0 .1), ne-eqb _ _ (s .0 .0 .0 .0 .1))
+    simp (
+      ne-eqb _ _ (r .1),
+      ne-eqb _ _ (r .0 .1),
+      ne-eqb _ _ (r .0 .0 .1),
+      ne-eqb _ _ (r .0 .0 .0 .1),
+      ne-eqb _ _ (s .1),
+      ne-eqb _ _ (s .0 .1),
+      ne-eqb _ _ (s .0 .0 .1),
+      ne-eqb _ _ (s .0 .0 .0 .1),
+      ne-eqb _ _ (s .0 .0 .0 .0 .1),
+    )
 
 pub phase-of-spec : {M : Type 1} → statement M
 unfolding phaseOf

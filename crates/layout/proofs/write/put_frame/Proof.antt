@@ -3,13 +3,11 @@ use Rattle.layout.proofs.Kit.{refl, length-set, arith, needs}
 use Rattle.layout.proofs.write.put_frame.Statement.{statement}
 use Rattle.layout.proofs.write.put_frame.Tie as tie
 
-stored : tie.Need-returns
-stored c = record { next = refl; stored = rw (c .before .before .bit .ensures, c .before .bit2 .ensures, c .bit3 .ensures) }
-
 pub put-frame-spec : {M : Type 1} → statement M
 put-frame-spec =
     tie.close
     (tie.spec
     (search needs) (λ c. simp length-set (omega arith)) (λ c. simp length-set (omega arith)) (λ c. simp length-set (omega arith))
     (λ c. simp length-set (omega arith)) (search needs) (λ c. simp length-set (omega arith)) (search needs)
-    (λ c. simp length-set (omega arith)) (search needs) (λ c. simp length-set (omega arith)) (λ c. simp length-set) stored)
+    (λ c. simp length-set (omega arith)) (search needs) (λ c. simp length-set (omega arith)) (λ c. simp length-set)
+    (λ c. record { next = refl; stored = refl }))

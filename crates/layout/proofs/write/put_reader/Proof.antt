@@ -31,10 +31,11 @@ front c = record { next = rw (long (c .before .before .before .before .before .b
 stored : tie.Need-returns
 stored c =
     let k = c .before .before .before in
-    rw (← k .before .before .before .before .phase-bytes .ensures, ← c .bit .ensures)
+    rw (← k .before .before .before .before .phase-bytes .ensures)
     (emitted-then (front k) (record { next = refl; stored = refl }))
 
 pub put-reader-spec : {M : Type 1} → statement M
 put-reader-spec =
     tie.close
-    (tie.spec (search needs) (search needs) (λ c. search needs) (λ c. search needs) (λ c. search needs) room (search needs) last kept stored)
+    (tie.spec
+    (search needs) (search needs) (λ c. search needs) (λ c. search needs) (λ c. search needs) room (search needs) last kept stored)

@@ -1,5 +1,4 @@
 -- `read_message` meets its contract: option 30's, or another.
-use mathlib.Core.Path.{_∙_}
 use borrow.Author.Needs.{needs}
 use borrow.Author.Tests.{ne-eqb}
 use Rattle.local.proofs.told.read_message.Statement.{statement}

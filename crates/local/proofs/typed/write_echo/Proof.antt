@@ -25,11 +25,13 @@ write-echo-spec =
     let e = d .before .before in
     let l = e .before .before in
     let a = l .before .before .before .before .args in (
-      texted-more (bytesOf (a .echo) (textOf (a .line))) _ (l .loop .i) (l .loop .inv .0) (omega (arith, e .before .loop-test .taken, l .before .echo-length .ensures))
+      texted-more (bytesOf (a .echo) (textOf (a .line))) _ (l .loop .i) (l .loop .inv .0)
+          (omega (arith, e .before .loop-test .taken, l .before .echo-length .ensures))
           (rw (e .echo-at .ensures) at (d .take-data .ensures)),
       search needs,
     ))
     (λ c. search needs)
     (λ c. let l = c .before in
     let a = l .before .before .before .before .args in
-    texted-all (bytesOf (a .echo) (textOf (a .line))) _ (l .loop .i) (l .loop .inv .0) (omega (arith, c .loop-test .left, l .before .echo-length .ensures))))
+    texted-all (bytesOf (a .echo) (textOf (a .line))) _ (l .loop .i) (l .loop .inv .0)
+    (omega (arith, c .loop-test .left, l .before .echo-length .ensures))))

@@ -245,8 +245,7 @@ variants! {
     EchoWithout2 "echo-without-2" "keys are echoed while parameter 2 is 0";
     EchoMaskIgnored "echo-mask-ignored" "parameter 20 silences nothing";
     Mask64Ignored "mask-64-ignored" "bit 64 of parameter 20 silences nothing";
-    MaskSignalsBy64 "mask-signals-by-64" "edit keys are silenced by bit 64 alone";
-    MaskSparesSignals "mask-spares-signals" "parameter 20 does not silence edit keys";
+    MaskSignalsByKey "mask-signals-by-key" "edit keys are silenced by their own set too";
     MaskTakesEchoedLf "mask-takes-echoed-lf" "bit 2 of parameter 20 silences the LF of an echoed CR";
     EchoByInputBit "echo-by-input-bit" "bit 2 of parameter 13 adds the LF of an echoed CR";
     EchoLfSwallowed "echo-lf-swallowed" "LF after CR is swallowed in an echo as in host text";
@@ -261,7 +260,7 @@ variants! {
     LineDeleteOnce "line-delete-once" "a line delete on a display erases one character";
     LineDeleteByCharacter "line-delete-by-character" "a line delete signals each character by the chosen one";
     LineDeleteNoCrLf "line-delete-no-cr-lf" "a line delete signals XXX alone";
-    DisplayKeyUnechoed "display-key-unechoed" "the line display key is not echoed itself";
+    DisplayKeyEchoed "display-key-echoed" "the line display key is echoed itself";
     DisplayNeedsEcho "display-needs-echo" "the line is displayed only where its key is echoed";
 
     // Host text after CR.

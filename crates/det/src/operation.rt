@@ -79,7 +79,17 @@ fn take_all(
         }
         let values = pad.values;
         let lf = prints_lf(values);
-        let turn = take_turn(frame, reader, lf, input, taken, chars, attrs, reply, written);
+        let turn = take_turn(
+            frame,
+            reader,
+            lf,
+            input,
+            taken,
+            chars,
+            attrs,
+            reply,
+            written,
+        );
         let event = turn.event;
         pad = pad_told(frame, pad, event);
         frame = turn.frame;
@@ -164,13 +174,7 @@ fn take_meaning(
 }
 
 // A key that is not refused and that the edit line takes.
-fn take_line(
-    session: Session,
-    code: u8,
-    chars: &mut [u8],
-    attrs: &[u8],
-    reply: &mut [u8],
-) -> Answer
+fn take_line(session: Session, code: u8, chars: &mut [u8], attrs: &[u8], reply: &mut [u8]) -> Answer
     requires { ⌜ keyRefusal (state session (lent chars attrs)) (now reply) code ≡ Refusal.Taken ⌝ }
     requires { ⌜ takesKey (session .frame) code ≡ true ⌝ }
     ensures { λ r. ⌜ outcome r (lent (chars .exit) (attrs .entry)) (now (reply .exit))

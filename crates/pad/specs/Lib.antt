@@ -5,3 +5,4 @@ pub mod Response
 pub mod Keys
 pub mod Echo
 pub mod Host
+pub mod inner

@@ -58,10 +58,10 @@ impl Desk<'_> {
     fn silencing(&self, key: u8) -> u8 {
         let edits = self.pad.edit(key, self.variant).is_some();
         match (edits, self.variant) {
-            (_, Variant::EchoMaskIgnored) | (true, Variant::MaskSparesSignals) => 0,
-            (true, Variant::MaskSignalsBy64) => sets::EDITING,
-            (true, Variant::Mask64Ignored) | (false, _) => sets::silencing(key),
-            (true, _) => sets::silencing(key) | sets::EDITING,
+            (_, Variant::EchoMaskIgnored) | (true, Variant::Mask64Ignored) => 0,
+            (true, Variant::MaskSignalsByKey) => sets::silencing(key) | sets::EDITING,
+            (true, _) => sets::EDITING,
+            (false, _) => sets::silencing(key),
         }
     }
 

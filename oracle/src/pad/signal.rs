@@ -42,10 +42,9 @@ impl Desk<'_> {
         silent && self.varies(Variant::SignalsWithout2)
     }
 
-    /// The key is echoed like any other; the line is printed, whatever may
-    /// be echoed.
+    /// The line is printed, whatever may be echoed; its key is not.
     fn display(&mut self, key: u8) {
-        if !self.varies(Variant::DisplayKeyUnechoed) {
+        if self.varies(Variant::DisplayKeyEchoed) {
             self.echo(key);
         }
         if self.varies(Variant::DisplayNeedsEcho) && !self.echoes(key) {

@@ -69,10 +69,10 @@ fn the_mask_silences_by_sets() {
 }
 
 #[test]
-fn an_edit_key_is_silenced_by_its_own_set_too() {
+fn an_edit_key_is_silenced_by_bit_64_alone() {
     let del = |mask| echoing(2).set(&[16, 127, 20, mask]);
     assert_eq!(shown(del(63), b"ab\x7f"), expect("a", "", (1, 0)));
-    assert_eq!(shown(del(128), b"ab\x7f"), expect("ab", "", (2, 0)));
+    assert_eq!(shown(del(128), b"ab\x7f"), expect("a", "", (1, 0)));
     assert_eq!(shown(del(64), b"ab\x7f"), expect("ab", "", (2, 0)));
 }
 
@@ -121,8 +121,8 @@ fn word_deletes_are_signalled_character_by_character() {
 }
 
 #[test]
-fn the_line_is_displayed_after_its_key() {
-    assert_eq!(shown(echoing(2), b"ab!"), expect("ab!ab", "", (5, 0)));
+fn the_line_is_displayed_and_its_key_is_not() {
+    assert_eq!(shown(echoing(2), b"ab!"), expect("abab", "", (4, 0)));
     let masked = echoing(2).set(&[20, 64]);
     assert_eq!(shown(masked, b"ab!"), expect("abab", "", (4, 0)));
     let silent = echoing(2).set(&[2, 0, 20, 255]);

@@ -1,5 +1,5 @@
 -- `overfills` meets its contract: one case for each kind of key.
-use Rattle.pad.proofs.Kit.{_∙_, needs}
+use Rattle.pad.proofs.Kit.{needs}
 use Rattle.pad.specs.Keys.{overfills}
 use Rattle.pad.proofs.key.overfills.Statement.{statement}
 use Rattle.pad.proofs.key.overfills.Tie as tie
@@ -15,4 +15,4 @@ overfills-spec =
     (λ c. rw (← c .before .before .kind-of .ensures, c .enum-told3 .given .1))
     (λ c. rw (← c .before .before .kind-of .ensures, c .enum-told4 .given .1))
     (λ c. rw (← c .before .before .kind-of .ensures, c .enum-told5 .given .1))
-    (λ c. c .is-full .ensures ∙ rw (← c .before .before .before .kind-of .ensures, c .before .enum-told6 .given .1)))
+    (λ c. rw (c .length .ensures .0, ← c .before .before .before .kind-of .ensures, c .before .enum-told6 .given .1)))

@@ -68,9 +68,10 @@
  *                      is empty then
  *   any other          waits in the line; DET_LINE_FULL where the line is full
  *
- * With echo on, what is typed is written on the screen as text from the host is: a guarded cell
- * drops it, and the cursor moves. Keys from 128 on are as ever: function keys want option 20 on.
- * From the host, an LF right after a CR is passed over, unless parameter 13 has its bit 1.
+ * With echo on, what is typed is written on the screen as text from the host is: at the cursor,
+ * which goes on, and never on a guarded cell. Keys from 128 on are as ever: function keys want
+ * option 20 on. From the host, an LF right after a CR is passed over, unless parameter 13 has its
+ * bit 1.
  *
  * While both options are on the keys are a form's, and the line stays as it is. DONT 30 empties it,
  * unsent.

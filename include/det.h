@@ -1,10 +1,13 @@
-/* det.h: a form terminal for Telnet's Data Entry Terminal option (option 20).
+/* det.h: a form terminal for Telnet's Data Entry Terminal option (option 20), with an X.3 PAD
+ * (option 30) for the screens before the form.
  *
  * A host paints a form on a screen of M columns by N lines, protects its labels, and reads back
- * what an operator types. The library is the terminal: it takes the host's bytes and the operator's
- * keys, changes the screen, and writes the bytes that are to go back. It opens no connection, draws
- * nothing, allocates nothing and keeps nothing from one call to the next: all that a terminal is
- * lies in the caller's memory. Calls on memory that is apart may run at the same time.
+ * what an operator types. On log-in and menu screens, where no form is, it can have typed text
+ * edited here and sent a line at a time. The library is the terminal: it takes the host's bytes
+ * and the operator's keys, changes the screen, and writes the bytes that are to go back. It opens
+ * no connection, draws nothing, allocates nothing and keeps nothing from one call to the next: all
+ * that a terminal is lies in the caller's memory. Calls on memory that is apart may run at the same
+ * time.
  *
  * For x86-64 Linux. 'rt staticlib det_abi' makes target/staticlib/libdet_abi.a; then
  *
@@ -20,7 +23,8 @@
  *   chars    M * N bytes: the characters of the screen, each 32 to 126. Column x of line y, both
  *            counted from 0, is byte y * M + x.
  *   attrs    M * N bytes: the attributes of those cells, in the same order (DET_PROTECTION).
- *   session  DET_SESSION_LENGTH bytes: everything else about the terminal (DET_AT_...).
+ *   session  DET_SESSION_LENGTH bytes: everything else about the terminal (DET_AT_...). Bytes of
+ *            another length or of another version of the library are no session.
  *   input    bytes from the host, any number of them.
  *   reply    at least DET_REPLY_ROOM(M, N) bytes, for the bytes that are to go to the host. They
  *            are written from its start on; the bytes after them stay as they were.
@@ -42,10 +46,38 @@
  * Each function returns DET_DONE or the number of a refusal (DET_SIZE and so on). Where more than
  * one refusal holds, the first in this order is returned:
  *
- *   255, 1, 2, 3, 4, 5, 9, 8, 6, 7
+ *   255, 1, 2, 3, 4, 5, 9, 8, 6, 7, 10
  *
  * A refused call changes nothing: not the session, not one byte of a buffer; it sets both counts
  * to 0. (det_open, which makes a session, says below what it leaves.)
+ *
+ *
+ * Option 30
+ *
+ * The host turns it on and off and sets its parameters. A program that embeds the terminal does
+ * nothing for it but hand on each key by its ASCII code, the control characters too.
+ *
+ * While option 30 is on and option 20 is off, the keys 0 to 127 are text and nothing else: 13 is a
+ * CR and sends no form, 127 is a DEL and deletes nothing on the screen, and whether the cell at the
+ * cursor is guarded, or of a class, does not matter. They go to the edit line in the session, which
+ * holds DET_LINE_MOST of them. The parameters say which of these a key is:
+ *
+ *   an edit key        takes a character, a word or all of it from the line, or writes the line on
+ *                      the screen
+ *   a forwarding key   sends the line and itself by way of reply, each CR as two bytes; the line
+ *                      is empty then
+ *   any other          waits in the line; DET_LINE_FULL where the line is full
+ *
+ * With echo on, what is typed is written on the screen as text from the host is: at the cursor,
+ * which goes on, and never on a guarded cell. Keys from 128 on are as ever: function keys want
+ * option 20 on. From the host, an LF right after a CR is passed over, unless parameter 13 has its
+ * bit 1.
+ *
+ * While both options are on the keys are a form's, and the line stays as it is. DONT 30 empties it,
+ * unsent.
+ *
+ * DET_REPLY_ROOM(M, N) bytes for the reply are enough here too: a full line fits from DET_PAD_CELLS
+ * cells up. On a smaller screen the terminal answers DO 30 with WONT 30.
  */
 #ifndef DET_H
 #define DET_H
@@ -61,8 +93,17 @@ extern "C" {
  * m columns by n lines: the longest reply that one byte or key can draw fits in it. */
 #define DET_WIDTH_MOST 132
 #define DET_HEIGHT_MOST 64
-#define DET_SESSION_LENGTH 15
+#define DET_SESSION_LENGTH 206
 #define DET_REPLY_ROOM(m, n) ((size_t)7 * (m) * (n) + 2)
+
+/* The first byte of every session: how the others are laid out. */
+#define DET_SESSION_VERSION 2
+
+/* Option 30: the fewest cells that it is accepted with, the most bytes that the edit line holds,
+ * and how many parameters there are. */
+#define DET_PAD_CELLS 37
+#define DET_LINE_MOST 128
+#define DET_PARAMETER_COUNT 28
 
 /* What a call answers. */
 enum {
@@ -70,32 +111,54 @@ enum {
     DET_SIZE = 1,        /* M is not 1 to 132, or N is not 1 to 64 */
     DET_LENGTH = 2,      /* chars or attrs is not M * N bytes long */
     DET_CHARACTER = 3,   /* a byte of chars is not 32 to 126; never of det_open */
-    DET_RANGE = 4,       /* the session's cursor is off the screen, or its count of held bytes is
-                            above 6; never of det_open */
+    DET_RANGE = 4,       /* in the session, the cursor is off the screen, the count of held bytes is
+                            above 6, option 30 is on with fewer than DET_PAD_CELLS cells, the edit
+                            line is longer than DET_LINE_MOST or has a byte above 127, or one of
+                            the parameters, DET_AT_COPY's too, has a value that it cannot have;
+                            never of det_open */
     DET_ROOM = 5,        /* reply is shorter than DET_REPLY_ROOM(M, N); never of det_open */
     DET_GUARDED = 6,     /* a character or the delete key, and the cell is guarded */
     DET_CLASS = 7,       /* a character that the cell's class does not take */
     DET_OFF = 8,         /* the send key or a function key, and option 20 is off */
     DET_NO_MEANING = 9,  /* a key that means nothing */
+    DET_LINE_FULL = 10,  /* a key that would wait in the edit line, and the line is full */
     DET_NO_SESSION = 255 /* session is not DET_SESSION_LENGTH bytes long, or its bytes are no
                             session (below) */
 };
 
-/* The session, byte by byte. Bytes are no session where DET_AT_ON or DET_AT_SUPPRESSED is above 1,
- * DET_AT_READER is above DET_READER_SUB_IAC, or DET_AT_OPTION is not 0 while DET_AT_READER is below
- * DET_READER_SUB. */
+/* The session, byte by byte.
+ *
+ * Bytes are no session where DET_AT_VERSION is not DET_SESSION_VERSION; DET_AT_ON, DET_AT_PAD_ON,
+ * DET_AT_SUPPRESSED or DET_AT_CR is above 1; DET_AT_READER is above DET_READER_SUB_IAC, or
+ * DET_AT_OPTION is not 0 while it is below DET_READER_SUB; DET_AT_STAGE is above DET_STAGE_VALUE,
+ * DET_AT_CODE is not 0 while it is DET_STAGE_CODE, or DET_AT_WAITING is not 0 while it is below
+ * DET_STAGE_VALUE. */
 enum {
-    DET_AT_WIDTH = 0,      /* M */
-    DET_AT_HEIGHT = 1,     /* N */
-    DET_AT_X = 2,          /* the cursor's column, from 0 */
-    DET_AT_Y = 3,          /* the cursor's line, from 0 */
-    DET_AT_ON = 4,         /* 1 while option 20 is on */
-    DET_AT_SUPPRESSED = 5, /* 1 while protection is suppressed */
-    DET_AT_READER = 6,     /* where the reader of Telnet bytes stands: DET_READER_... */
-    DET_AT_OPTION = 7,     /* the option of the subnegotiation that is being read, else 0 */
-    DET_AT_HELD = 8,       /* six bytes: what that subnegotiation has had after its option byte */
-    DET_AT_HELD_COUNT = 14 /* how many of the six; it stops at 6, though more bytes may come */
+    DET_AT_VERSION = 0,      /* DET_SESSION_VERSION */
+    DET_AT_WIDTH = 1,        /* M */
+    DET_AT_HEIGHT = 2,       /* N */
+    DET_AT_X = 3,            /* the cursor's column, from 0 */
+    DET_AT_Y = 4,            /* the cursor's line, from 0 */
+    DET_AT_ON = 5,           /* 1 while option 20 is on */
+    DET_AT_PAD_ON = 6,       /* 1 while option 30 is on */
+    DET_AT_SUPPRESSED = 7,   /* 1 while protection is suppressed */
+    DET_AT_READER = 8,       /* where the reader of Telnet bytes stands: DET_READER_... */
+    DET_AT_OPTION = 9,       /* the option of the subnegotiation that is being read, else 0 */
+    DET_AT_HELD_COUNT = 10,  /* how many of the next six; it stops at 6, though more may come */
+    DET_AT_HELD = 11,        /* six bytes: what that subnegotiation has had after its option byte */
+    DET_AT_CR = 17,          /* 1 where the host's last byte outside commands was a CR */
+    DET_AT_PARAMETERS = 18,  /* DET_PARAMETER_COUNT values of option 30: DET_AT_PARAMETER */
+    DET_AT_LINE_LENGTH = 46, /* how many bytes wait in the edit line */
+    DET_AT_LINE = 47,        /* DET_LINE_MOST bytes: those that wait; the others mean nothing */
+    DET_AT_STAGE = 175,      /* what comes next in a message of option 30: DET_STAGE_... */
+    DET_AT_CODE = 176,       /* the message's code, 0 before it */
+    DET_AT_WAITING = 177,    /* the parameter that waits for its value, else 0 */
+    DET_AT_COPY = 178        /* DET_PARAMETER_COUNT values, as the message will have set them */
 };
+
+/* Where the value of parameter p stands, which is 0 to 22 or 128 to 132. The last four are in force
+ * while 128 has the value 1. */
+#define DET_AT_PARAMETER(p) (DET_AT_PARAMETERS + ((p) < 128 ? (p) : (p) - 105))
 
 /* Where the reader stands. */
 enum {
@@ -111,9 +174,16 @@ enum {
     DET_READER_SUB_IAC = 9 /* there, after IAC */
 };
 
+/* What comes next in a message of option 30. */
+enum {
+    DET_STAGE_CODE = 0,      /* its code; so also outside a message */
+    DET_STAGE_PARAMETER = 1, /* a parameter, or the end */
+    DET_STAGE_VALUE = 2      /* the value of the parameter that waits */
+};
+
 /* The two bits of an attribute byte that say what may be typed into the cell. A protected cell is
- * guarded unless protection is suppressed: no key and no text from the host changes a guarded
- * cell's character, and of the host's commands only ERASE SCREEN (29) does. */
+ * guarded unless protection is suppressed: no key, no echo and no text from the host changes a
+ * guarded cell's character, and of the host's commands only ERASE SCREEN (29) does. */
 #define DET_PROTECTION 0x18
 enum {
     DET_ANY = 0x00,        /* every character */
@@ -123,7 +193,7 @@ enum {
 };
 
 /* The keys. Besides these, 32 to 126 are the characters that are typed; no other number means
- * anything, however large. */
+ * anything, however large. (While the edit line takes the keys, 0 to 127 are text, all of them.) */
 enum {
     DET_KEY_BACK = 8,    /* to the previous cell that is not guarded */
     DET_KEY_TAB = 9,     /* to the start of the next unprotected field; after the last, the first */
@@ -133,12 +203,12 @@ enum {
 #define DET_KEY_FUNCTION(k) (127 + (k)) /* sends the number k, which is 1 to 16 */
 
 /* Opens a terminal of width columns by height lines: spaces in chars, zeros in attrs and, whatever
- * was in its place, a new session: cursor at column 0 of line 0, option 20 off, protection in
- * effect, nothing half read.
+ * was in its place, a new session: cursor at column 0 of line 0, both options off, protection in
+ * effect, nothing half read, nothing in the edit line, the parameters at their start.
  *
- * Refused with 1 or 2 it leaves chars and attrs alone and writes a session of 0 by 0, all zeros,
- * which the other two calls then refuse with 1. With 255, where the place for the session has
- * another length, it writes nothing at all. */
+ * Refused with 1 or 2 it leaves chars and attrs alone and writes such a session of 0 by 0, which
+ * the other two calls then refuse with 1. With 255, where the place for the session has another
+ * length, it writes nothing at all. */
 uint8_t det_open(size_t width, size_t height,
                  uint8_t *chars, size_t chars_len,
                  uint8_t *attrs, size_t attrs_len,
@@ -160,7 +230,8 @@ uint8_t det_host(uint8_t *session, size_t session_len,
 
 /* Takes one key of the operator; *taken is then 1. It changes the session and chars as the key
  * says, never attrs, and writes what is to be sent into reply. What is half read from the host
- * stays so. Refusals: any of the numbers. */
+ * stays so. Refusals: any of the numbers; for a key that the edit line takes, 10 alone of those
+ * after 5. */
 uint8_t det_key(uint8_t *session, size_t session_len,
                 uint32_t key,
                 uint8_t *chars, size_t chars_len,

@@ -4,7 +4,7 @@ use std::hint::black_box;
 
 use crate::compared::short;
 use crate::ours::Ours;
-use crate::screens::{Screen, FORM, HARD};
+use crate::screens::{Screen, EMPTY_LINE, FORM, FULL_LINE, HARD};
 use crate::size::{self, LARGE, SMALL};
 use crate::table::{Aim, Row, Table};
 use crate::timing::{beside, Costs, Job};
@@ -18,6 +18,12 @@ pub const KEYS: [(u32, &str); 6] = [
     (13, SEND),
     (127, "delete (127)"),
     (128, "function (128)"),
+];
+
+/// Keys that the edit line takes, and the line.
+pub const LINE_KEYS: [(u32, &str, Screen); 2] = [
+    (b'a' as u32, "a character", EMPTY_LINE),
+    (13, "a forwarding key (13)", FULL_LINE),
 ];
 
 const AIM: Aim = Aim::AtMost(3.0);

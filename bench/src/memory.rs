@@ -3,9 +3,9 @@
 use host::terminal::SESSION_LENGTH;
 
 use crate::c::stack::{used, Call};
-use crate::keys::KEYS;
+use crate::keys::{KEYS, LINE_KEYS};
 use crate::ours::Ours;
-use crate::screens::{FORM, HARD};
+use crate::screens::{EMPTY_LINE, FORM, HARD};
 use crate::size::{Size, LARGE, SMALL};
 use crate::streams;
 use crate::table::{Row, Table, Verdict};
@@ -16,7 +16,9 @@ pub fn table() -> Table {
         row("stack of det_open", open),
         row("stack of det_host, forms", host_forms),
         row("stack of det_host, every command", host_commands),
+        row("stack of det_host, option 30's messages", host_messages),
         row("stack of det_key, every key and screen of (c)", key),
+        row("stack of det_key, into the edit line", line_key),
     ];
     let (small, large) = (SMALL.to_string(), LARGE.to_string());
     Table::new("(d) Memory, in bytes", &["what", &small, &large], rows)
@@ -49,8 +51,15 @@ fn host_forms(size: Size) -> usize {
 }
 
 fn host_commands(size: Size) -> usize {
-    let (commands, screen) = (streams::commands(), (FORM.make)(size));
-    let calls = commands.iter().map(|bytes| Call::Host(bytes));
+    host_each(streams::commands(), (FORM.make)(size))
+}
+
+fn host_messages(size: Size) -> usize {
+    host_each(streams::messages(), (EMPTY_LINE.make)(size))
+}
+
+fn host_each(inputs: Vec<Vec<u8>>, screen: Ours) -> usize {
+    let calls = inputs.iter().map(|bytes| Call::Host(bytes));
     most(calls.map(|call| used(call, &screen)))
 }
 
@@ -58,4 +67,9 @@ fn key(size: Size) -> usize {
     let screens = [&FORM].into_iter().chain(&HARD);
     let screens = screens.map(|screen| (screen.make)(size));
     most(screens.flat_map(|screen| KEYS.map(|(key, _)| used(Call::Key(key), &screen))))
+}
+
+fn line_key(size: Size) -> usize {
+    let calls = LINE_KEYS.iter();
+    most(calls.map(|(key, _, line)| used(Call::Key(*key), &(line.make)(size))))
 }

@@ -4,7 +4,7 @@
 use host::terminal::{self, at, Counts, Session};
 
 use crate::size::Size;
-use crate::streams::DO_DET;
+use crate::streams::{DO_DET, TO_LINE};
 
 #[derive(Clone)]
 pub struct Ours {
@@ -27,6 +27,13 @@ impl Ours {
         };
         ours.take(&DO_DET);
         ours
+    }
+
+    /// Has the edit line take the keys.
+    pub fn to_line(&mut self) {
+        for bytes in TO_LINE {
+            self.take(&bytes);
+        }
     }
 
     /// Takes bytes that draw at most one reply.

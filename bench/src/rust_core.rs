@@ -5,7 +5,7 @@ use oracle::variant::Variant;
 use oracle::watch::Unwatched;
 
 use crate::size::Size;
-use crate::streams::DO_DET;
+use crate::streams::{DO_DET, TO_LINE};
 
 pub struct RustCore {
     terminal: Terminal,
@@ -29,6 +29,13 @@ impl RustCore {
         assert_eq!(outcome.refusal, None, "the size is one");
         core.take(&DO_DET);
         core
+    }
+
+    /// Has the edit line take the keys.
+    pub fn to_line(&mut self) {
+        for bytes in TO_LINE {
+            self.take(&bytes);
+        }
     }
 
     /// Takes bytes that draw at most one reply.

@@ -1,5 +1,7 @@
 //! The screens on which keys are pressed.
 
+use host::terminal::LINE_MOST;
+
 use crate::ours::Ours;
 use crate::size::Size;
 use crate::streams;
@@ -8,6 +10,11 @@ pub const OPEN: u8 = 0x00;
 pub const OPEN_TOO: u8 = 0x02;
 pub const PROTECTED: u8 = 0x08;
 pub const PROTECTED_TOO: u8 = 0x0a;
+
+/// Parameters of option 30, and a value.
+const ECHO: u8 = 2;
+const FORWARDING: u8 = 3;
+const ON_CR: u8 = 2;
 
 pub struct Screen {
     pub name: &'static str,
@@ -43,9 +50,32 @@ pub const HARD: [Screen; 5] = [
     },
 ];
 
+/// Where the edit line takes the keys, echoes them and goes out at CR.
+pub const EMPTY_LINE: Screen = Screen {
+    name: "an empty edit line",
+    make: |size| line(size, 0),
+};
+
+/// Full of CRs, which go out as two bytes each.
+pub const FULL_LINE: Screen = Screen {
+    name: "a full edit line",
+    make: |size| line(size, LINE_MOST),
+};
+
 fn form(size: Size) -> Ours {
     let mut ours = Ours::open(size);
     ours.take(&streams::one_form());
+    ours
+}
+
+fn line(size: Size, length: usize) -> Ours {
+    let mut ours = Ours::open(size);
+    ours.to_line();
+    for _ in 0..length {
+        ours.key(13)
+            .expect("a CR waits until it is told to forward");
+    }
+    ours.take(&streams::set(&[ECHO, 1, FORWARDING, ON_CR]));
     ours
 }
 

@@ -9,6 +9,7 @@ const VERBS: [u8; 4] = [WILL, WONT, DO, DONT];
 const SB: u8 = 250;
 const SE: u8 = 240;
 const DET: u8 = 20;
+const PAD: u8 = 30;
 
 const MOVE_CURSOR: u8 = 5;
 const ERASE_SCREEN: u8 = 29;
@@ -26,6 +27,13 @@ const PARAMETERS: [[u8; 5]; 4] = [
 
 /// Turns option 20 on.
 pub const DO_DET: [u8; 3] = [IAC, DO, DET];
+
+/// Turn option 20 off and option 30 on, by which the edit line takes the keys.
+pub const TO_LINE: [[u8; 3]; 2] = [[IAC, DONT, DET], [IAC, DO, PAD]];
+
+const SET: u8 = 0;
+const RESPONSE_SET: u8 = 1;
+const SEND: u8 = 4;
 
 const ANY: u8 = 0x00;
 const PROTECTED: u8 = 0x08;
@@ -137,9 +145,18 @@ fn format_data(attribute: u8, cells: u8) -> Vec<u8> {
     subcommand(&[FORMAT_DATA, attribute, 0, 0, cells])
 }
 
-/// For bytes without an IAC, which would have to be doubled.
 pub fn subcommand(bytes: &[u8]) -> Vec<u8> {
-    [&[IAC, SB, DET], bytes, &[IAC, SE]].concat()
+    subnegotiation(DET, bytes)
+}
+
+/// Sets parameters of option 30.
+pub fn set(pairs: &[u8]) -> Vec<u8> {
+    subnegotiation(PAD, &[&[SET], pairs].concat())
+}
+
+/// For bytes without an IAC, which would have to be doubled.
+fn subnegotiation(option: u8, bytes: &[u8]) -> Vec<u8> {
+    [&[IAC, SB, option], bytes, &[IAC, SE]].concat()
 }
 
 pub fn negotiation(verb: u8, option: u8) -> Vec<u8> {
@@ -165,6 +182,17 @@ pub fn commands() -> Vec<Vec<u8>> {
         }
     }
     commands
+}
+
+/// Option 30's: all of its parameters set and asked for, and its negotiations.
+pub fn messages() -> Vec<Vec<u8>> {
+    let pairs: Vec<u8> = (0..=132).flat_map(|number| [number, 1]).collect();
+    let messages = [SET, RESPONSE_SET, SEND].map(|code| {
+        let bytes = [&[code], &pairs[..]].concat();
+        subnegotiation(PAD, &bytes)
+    });
+    let negotiations = VERBS.map(|verb| negotiation(verb, PAD));
+    messages.into_iter().chain(negotiations).collect()
 }
 
 const WORDS: [&str; 12] = [

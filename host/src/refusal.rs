@@ -16,10 +16,11 @@ pub enum Refusal {
     Class = 7,
     Off = 8,
     NoMeaning = 9,
+    LineFull = 10,
 }
 
 impl Refusal {
-    pub const ALL: [Refusal; 9] = [
+    pub const ALL: [Refusal; 10] = [
         Refusal::Size,
         Refusal::Length,
         Refusal::Character,
@@ -29,6 +30,7 @@ impl Refusal {
         Refusal::Class,
         Refusal::Off,
         Refusal::NoMeaning,
+        Refusal::LineFull,
     ];
 
     pub fn number(self) -> u8 {
@@ -47,12 +49,13 @@ impl Refusal {
             Refusal::Size => "no screen has this size",
             Refusal::Length => "the screen's buffers have another length than the screen",
             Refusal::Character => "a byte on the screen is no character",
-            Refusal::Range => "the session's cursor or its count of held bytes is out of range",
+            Refusal::Range => "a part of the session is out of its range",
             Refusal::Room => "the reply buffer is too short",
             Refusal::Guarded => "the cell is guarded",
             Refusal::Class => "the cell does not take this character",
             Refusal::Off => "option 20 is off",
             Refusal::NoMeaning => "the key has no meaning",
+            Refusal::LineFull => "the edit line is full",
         }
     }
 }

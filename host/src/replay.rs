@@ -83,6 +83,7 @@ impl Replay {
             Line::Held(count) => self.set_byte(at::HELD_COUNT, count),
             Line::Det(on) => self.set_byte(at::ON, on),
             Line::Suppress(on) => self.set_byte(at::SUPPRESSED, on),
+            Line::Pad(on) => self.set_byte(at::PAD_ON, on),
             Line::Open { .. } | Line::Host { .. } | Line::Key { .. } | Line::State => {}
         }
     }
@@ -100,7 +101,7 @@ impl Replay {
         };
         let (session, cursor) = (&self.session, self.session.cursor());
         format!(
-            "{answer} {} {} {} {} {} {} {} {} {} {} {}",
+            "{answer} {} {} {} {} {} {} {} {} {} {} {} {} {} {}",
             counts.taken,
             counts.written,
             hex(&self.reply),
@@ -111,7 +112,10 @@ impl Replay {
             u8::from(session.is_on()),
             u8::from(session.is_suppressed()),
             hex(&self.chars),
-            hex(&self.attrs)
+            hex(&self.attrs),
+            u8::from(session.is_pad_on()),
+            hex(session.line()),
+            hex(session.parameters())
         )
     }
 

@@ -28,6 +28,7 @@ pub enum Line {
     Held(u8),
     Det(u8),
     Suppress(u8),
+    Pad(u8),
     State,
 }
 
@@ -64,6 +65,7 @@ impl Line {
             b"held" => Line::Held(fields.byte(255)?),
             b"det" => Line::Det(fields.byte(1)?),
             b"suppress" => Line::Suppress(fields.byte(1)?),
+            b"pad" => Line::Pad(fields.byte(1)?),
             b"state" => Line::State,
             _ => return None,
         };

@@ -29,19 +29,39 @@ use crate::refusal::Refusal;
 
 /// Where in a session's bytes each part of it stands.
 pub mod at {
-    pub const WIDTH: usize = 0;
-    pub const HEIGHT: usize = 1;
-    pub const X: usize = 2;
-    pub const Y: usize = 3;
-    pub const ON: usize = 4;
-    pub const SUPPRESSED: usize = 5;
-    pub const READER: usize = 6;
-    pub const OPTION: usize = 7;
-    pub const HELD: usize = 8;
-    pub const HELD_COUNT: usize = 14;
+    pub const VERSION: usize = 0;
+    pub const WIDTH: usize = 1;
+    pub const HEIGHT: usize = 2;
+    pub const X: usize = 3;
+    pub const Y: usize = 4;
+    pub const ON: usize = 5;
+    pub const PAD_ON: usize = 6;
+    pub const SUPPRESSED: usize = 7;
+    pub const READER: usize = 8;
+    pub const OPTION: usize = 9;
+    pub const HELD_COUNT: usize = 10;
+    pub const HELD: usize = 11;
+    pub const CR: usize = 17;
+    pub const PARAMETERS: usize = 18;
+    pub const LINE_LENGTH: usize = 46;
+    pub const LINE: usize = 47;
+    pub const STAGE: usize = 175;
+    pub const CODE: usize = 176;
+    pub const WAITING: usize = 177;
+    pub const COPY: usize = 178;
 }
 
-pub const SESSION_LENGTH: usize = 15;
+pub const SESSION_LENGTH: usize = 206;
+pub const SESSION_VERSION: u8 = 2;
+
+/// The fewest cells that option 30 is accepted with.
+pub const PAD_CELLS: usize = 37;
+
+/// The most bytes that the edit line holds.
+pub const LINE_MOST: usize = 128;
+
+/// How many parameters option 30 has here: 0 to 22 and 128 to 132.
+pub const PARAMETER_COUNT: usize = 28;
 
 const DONE: u8 = 0;
 const NO_SESSION: u8 = 255;
@@ -51,10 +71,18 @@ pub const fn reply_room(width: usize, height: usize) -> usize {
     7 * width * height + 2
 }
 
-/// What a terminal is besides its screen. The default is the session that a
-/// refused [`open`] leaves: 0 by 0, refused with 1 by every call.
-#[derive(Clone, Debug, Default, PartialEq, Eq)]
+/// What a terminal is besides its screen.
+#[derive(Clone, Debug, PartialEq, Eq)]
 pub struct Session([u8; SESSION_LENGTH]);
+
+impl Default for Session {
+    /// What a refused [`open`] leaves: 0 by 0, refused with 1 by every call.
+    fn default() -> Session {
+        let mut session = Session([0; SESSION_LENGTH]);
+        raw::open(0, 0, &mut [], &mut [], &mut session.0);
+        session
+    }
+}
 
 /// A column and a line, from 0.
 #[derive(Clone, Copy, Debug, PartialEq, Eq)]
@@ -88,13 +116,15 @@ pub struct Counts {
 
 /// Opens a screen: spaces, attributes 0, a new session. Refused, it changes no
 /// buffer.
+// A session is as long where it is opened.
+#[allow(clippy::result_large_err)]
 pub fn open(
     width: usize,
     height: usize,
     chars: &mut [u8],
     attrs: &mut [u8],
 ) -> Result<Session, (Refusal, Session)> {
-    let mut session = Session::default();
+    let mut session = Session([0; SESSION_LENGTH]);
     match answer(raw::open(width, height, chars, attrs, &mut session.0)) {
         Ok(()) => Ok(session),
         Err(refusal) => Err((refusal, session)),
@@ -177,6 +207,11 @@ impl Session {
         self.0[at::ON] == 1
     }
 
+    /// Whether option 30 is on.
+    pub fn is_pad_on(&self) -> bool {
+        self.0[at::PAD_ON] == 1
+    }
+
     /// Whether protection is suppressed.
     pub fn is_suppressed(&self) -> bool {
         self.0[at::SUPPRESSED] == 1
@@ -200,12 +235,34 @@ impl Session {
 
     /// The six places for the bytes of a subnegotiation.
     pub fn held(&self) -> &[u8] {
-        &self.0[at::HELD..at::HELD_COUNT]
+        &self.0[at::HELD..at::CR]
     }
 
     /// How many of them are held.
     pub fn held_count(&self) -> u8 {
         self.0[at::HELD_COUNT]
+    }
+
+    /// What waits in the edit line. A length out of range counts as the most.
+    pub fn line(&self) -> &[u8] {
+        let length = usize::from(self.0[at::LINE_LENGTH]);
+        &self.0[at::LINE..][..length.min(LINE_MOST)]
+    }
+
+    /// The values of option 30's parameters in force: 0 to 22, then 128 to
+    /// 132, of which the last four count while 128 has the value 1.
+    pub fn parameters(&self) -> &[u8] {
+        &self.0[at::PARAMETERS..][..PARAMETER_COUNT]
+    }
+
+    /// The value of one of them; none for a parameter that there is not.
+    pub fn parameter(&self, number: u8) -> Option<u8> {
+        let place = match number {
+            0..=22 => number,
+            128..=132 => number - 105,
+            _ => return None,
+        };
+        Some(self.parameters()[usize::from(place)])
     }
 }
 

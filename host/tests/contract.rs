@@ -1,101 +1,48 @@
 //! What the contracts of the three operations ask, run on the static library.
 
+mod lent;
+
 use std::collections::BTreeSet;
 
 use host::raw;
 use host::refusal::Refusal;
-use host::terminal::{self, at, reply_room, Counts, Cursor, Reader, Session, SESSION_LENGTH};
+use host::terminal::{self, at, reply_room, Counts, Cursor, Reader, Session};
+use host::terminal::{LINE_MOST, SESSION_LENGTH, SESSION_VERSION};
 
-use Call::{Host, Key};
-
-/// What the lent reply bytes are before a call, and what the counts are.
-const LENT: u8 = 0xa5;
-const COUNT: usize = 77;
+use lent::Call::{self, Host, Key};
+use lent::{cut_anywhere, fresh, Lent, LENT};
 
 /// Form F: its characters and its attributes.
 const F: &[u8; 16] = b"WT 70 #4UNIT mg ";
 const P: u8 = 8;
 const ATTRS: [u8; 16] = [P, P, P, 0, 0, 0, P, P, P, P, P, P, P, 0, 0, 0];
 
-#[derive(Clone, Copy, Debug)]
-enum Call {
-    Host(&'static [u8]),
-    Key(u32),
+/// Form F, option 20 on, the least reply room.
+fn form(x: u8, y: u8) -> Lent {
+    let mut lent = Lent::open(8, 2);
+    (lent.session[at::X], lent.session[at::Y]) = (x, y);
+    lent.session[at::ON] = 1;
+    lent.chars.copy_from_slice(F);
+    lent.attrs.copy_from_slice(&ATTRS);
+    lent
 }
 
-/// The number that a call returns, and its two counts.
-type Answer = (u8, usize, usize);
-
-/// All that a call can be given, and all that it can change but the counts.
-#[derive(Clone, Debug, PartialEq, Eq)]
-struct Lent {
-    session: Vec<u8>,
-    chars: Vec<u8>,
-    attrs: Vec<u8>,
-    reply: Vec<u8>,
+/// Option 30 on, the edit line full, the cursor on a guarded cell, the least
+/// reply room.
+fn full_line() -> Lent {
+    let mut lent = Lent::open(37, 1);
+    lent.session[at::PAD_ON] = 1;
+    lent.session[at::LINE_LENGTH] = LINE_MOST as u8;
+    lent.session[at::LINE..at::STAGE].fill(b'A');
+    lent.attrs.fill(P);
+    lent
 }
 
-impl Lent {
-    /// Form F, option 20 on, the least reply room.
-    fn form(x: u8, y: u8) -> Lent {
-        Lent {
-            session: vec![8, 2, x, y, 1, 0, 0, 0, 0, 0, 0, 0, 0, 0, 0],
-            chars: F.to_vec(),
-            attrs: ATTRS.to_vec(),
-            reply: vec![LENT; reply_room(8, 2)],
-        }
-    }
-
-    fn changed(mut self, change: Change) -> Lent {
-        change(&mut self);
-        self
-    }
-
-    /// The call by its slices, and by a [`Session`] where the bytes are one:
-    /// both have to come to the same.
-    fn call(&mut self, call: Call) -> Answer {
-        let mut twin = self.clone();
-        let answer = self.raw_call(call);
-        match twin.safe_call(call) {
-            Some(safe) => assert_eq!((safe, &twin), (answer, &*self), "{call:?}"),
-            None => assert_eq!(answer.0, 255, "{call:?}"),
-        }
-        answer
-    }
-
-    fn raw_call(&mut self, call: Call) -> Answer {
-        let (mut taken, mut written) = (COUNT, COUNT);
-        let (session, chars, attrs) = (&mut self.session, &mut self.chars, &mut self.attrs);
-        let (reply, t, w) = (&mut self.reply, &mut taken, &mut written);
-        let number = match call {
-            Host(input) => raw::host(session, input, chars, attrs, reply, t, w),
-            Key(key) => raw::key(session, key, chars, attrs, reply, t, w),
-        };
-        (number, taken, written)
-    }
-
-    fn safe_call(&mut self, call: Call) -> Option<Answer> {
-        let mut session = Session::from_bytes(self.session.clone().try_into().ok()?)?;
-        let (chars, attrs, reply) = (&mut self.chars, &mut self.attrs, &mut self.reply);
-        let result = match call {
-            Host(input) => session.host_bytes(input, chars, attrs, reply),
-            Key(key) => session.key(key, chars, attrs, reply),
-        };
-        self.session = session.as_bytes().to_vec();
-        Some(match result {
-            Ok(counts) => (0, counts.taken, counts.written),
-            Err(refusal) => (refusal.number(), 0, 0),
-        })
-    }
-
-    /// Tries a call that must be refused with this number.
-    fn refuses(mut self, number: u8, call: Call) {
-        let before = self.clone();
-        let answer = self.call(call);
-        assert_eq!(answer, (number, 0, 0), "{call:?} on {before:?}");
-        assert_eq!(self, before, "{call:?}, refused with {number}");
-    }
-}
+/// The parameters of option 30, each with the most that it takes.
+const MOST: [u8; 28] = [
+    1, 126, 1, 127, 0, 1, 0, 31, 1, 7, 255, 18, 1, 7, 7, 1, 127, 127, 127, 126, 255, 3, 255, 255,
+    127, 127, 127, 1,
+];
 
 type Change = fn(&mut Lent);
 type Row = (u8, Change);
@@ -103,14 +50,29 @@ type Row = (u8, Change);
 /// What makes host bytes and keys alike refused.
 const REFUSALS: &[Row] = &[
     (255, |lent| lent.session.clear()),
-    (255, |lent| lent.session.truncate(14)),
+    (255, |lent| lent.session.truncate(SESSION_LENGTH - 1)),
     (255, |lent| lent.session.push(0)),
+    // The layout before this one.
+    (255, |lent| {
+        lent.session = vec![8, 2, 3, 0, 1, 0, 0, 0, 0, 0, 0, 0, 0, 0, 0]
+    }),
+    (255, |lent| lent.session[at::VERSION] = 0),
+    (255, |lent| lent.session[at::VERSION] = SESSION_VERSION - 1),
+    (255, |lent| lent.session[at::VERSION] = SESSION_VERSION + 1),
     (255, |lent| lent.session[at::ON] = 2),
+    (255, |lent| lent.session[at::PAD_ON] = 2),
     (255, |lent| lent.session[at::SUPPRESSED] = 2),
+    (255, |lent| lent.session[at::CR] = 2),
     (255, |lent| lent.session[at::READER] = 10),
     (255, |lent| lent.session[at::OPTION] = 1),
     (255, |lent| {
-        lent.session[at::READER..at::HELD].copy_from_slice(&[7, 20])
+        (lent.session[at::READER], lent.session[at::OPTION]) = (7, 20)
+    }),
+    (255, |lent| lent.session[at::STAGE] = 3),
+    (255, |lent| lent.session[at::CODE] = 1),
+    (255, |lent| lent.session[at::WAITING] = 1),
+    (255, |lent| {
+        (lent.session[at::STAGE], lent.session[at::WAITING]) = (1, 1)
     }),
     (1, |lent| lent.session[at::WIDTH] = 0),
     (1, |lent| lent.session[at::WIDTH] = 133),
@@ -125,6 +87,14 @@ const REFUSALS: &[Row] = &[
     (4, |lent| lent.session[at::X] = 8),
     (4, |lent| lent.session[at::Y] = 2),
     (4, |lent| lent.session[at::HELD_COUNT] = 7),
+    (4, |lent| lent.session[at::PAD_ON] = 1),
+    (4, |lent| lent.session[at::LINE_LENGTH] = 129),
+    (4, |lent| {
+        lent.session[at::LINE_LENGTH] = 2;
+        lent.session[at::LINE + 1] = 128;
+    }),
+    (4, |lent| lent.session[at::PARAMETERS + 4] = 1),
+    (4, |lent| lent.session[at::COPY + 27] = 2),
     (5, |lent| lent.reply.truncate(113)),
     (5, |lent| lent.reply.clear()),
 ];
@@ -171,6 +141,17 @@ const KEYS: &[(u8, Change, &[u32])] = &[
     ),
     (7, |lent| lent.attrs[3] = 0x18, &['A' as u32, ',' as u32]),
     (7, |lent| lent.attrs[3] = 0x10, &['7' as u32, '@' as u32]),
+    (10, |lent| *lent = full_line(), &[0, 8, 13, 'A' as u32, 127]),
+    (9, |lent| *lent = full_line(), &[144, 255, 256]),
+    (8, |lent| *lent = full_line(), &[128, 143]),
+    (
+        5,
+        |lent| {
+            *lent = full_line();
+            lent.reply.pop();
+        },
+        &[13, 'A' as u32],
+    ),
 ];
 
 #[test]
@@ -178,17 +159,17 @@ fn every_refusal_leaves_all_as_it_came() {
     let mut seen = BTreeSet::new();
     for &(number, change) in REFUSALS.iter().chain(ORDER) {
         for call in [Host(b""), Host(b"A"), Key('A' as u32), Key(0)] {
-            Lent::form(3, 0).changed(change).refuses(number, call);
+            form(3, 0).changed(change).refuses(number, call);
         }
         seen.insert(number);
     }
     for &(number, change, keys) in KEYS {
         for &key in keys {
-            Lent::form(3, 0).changed(change).refuses(number, Key(key));
+            form(3, 0).changed(change).refuses(number, Key(key));
         }
         seen.insert(number);
     }
-    assert!(seen.into_iter().eq((1..=9).chain([255])));
+    assert!(seen.into_iter().eq((1..=10).chain([255])));
 }
 
 /// The outermost that is not refused.
@@ -198,6 +179,16 @@ const TAKEN: &[Change] = &[
     |lent| lent.chars[15] = 126,
     |lent| (lent.session[at::X], lent.session[at::Y]) = (7, 1),
     |lent| lent.session[at::HELD_COUNT] = 6,
+    |lent| {
+        lent.session[at::LINE_LENGTH] = 128;
+        lent.session[at::LINE..at::STAGE].fill(127);
+    },
+    |lent| {
+        lent.session[at::LINE_LENGTH] = 127;
+        lent.session[at::STAGE - 1] = 255;
+    },
+    |lent| lent.session[at::PARAMETERS..at::LINE_LENGTH].copy_from_slice(&MOST),
+    |lent| lent.session[at::COPY..].copy_from_slice(&MOST),
     |lent| lent.reply.push(LENT),
     |lent| lent.session[at::ON] = 0,
     |lent| lent.attrs.fill(255),
@@ -206,34 +197,37 @@ const TAKEN: &[Change] = &[
 #[test]
 fn what_is_not_refused_is_done() {
     for &change in TAKEN {
-        let lent = Lent::form(3, 0).changed(change);
+        let lent = form(3, 0).changed(change);
         assert_eq!(lent.clone().call(Host(b"")), (0, 0, 0), "{lent:?}");
         assert_eq!(lent.clone().call(Host(b"A")), (0, 1, 0), "{lent:?}");
         assert_eq!(lent.clone().call(Key(9)), (0, 1, 0), "{lent:?}");
     }
 }
 
+const S: usize = SESSION_LENGTH;
+
 /// The answer; width and height; the lengths of characters, attributes and
 /// the place for the session.
 const OPENS: &[(u8, [usize; 2], [usize; 3])] = &[
-    (0, [8, 2], [16, 16, 15]),
-    (0, [1, 1], [1, 1, 15]),
-    (0, [132, 64], [8448, 8448, 15]),
-    (1, [133, 64], [8512, 8512, 15]),
-    (1, [132, 65], [8580, 8580, 15]),
-    (1, [0, 2], [0, 0, 15]),
-    (1, [8, 0], [0, 0, 15]),
-    (1, [0, 0], [1, 1, 15]),
-    (1, [256 + 8, 2], [16, 16, 15]),
-    (1, [8, (1 << 32) + 2], [16, 16, 15]),
-    (1, [usize::MAX, usize::MAX], [1, 1, 15]),
-    (2, [8, 2], [15, 16, 15]),
-    (2, [8, 2], [17, 16, 15]),
-    (2, [8, 2], [16, 15, 15]),
-    (2, [8, 2], [16, 17, 15]),
-    (2, [8, 2], [0, 0, 15]),
-    (255, [8, 2], [16, 16, 14]),
-    (255, [8, 2], [16, 16, 16]),
+    (0, [8, 2], [16, 16, S]),
+    (0, [1, 1], [1, 1, S]),
+    (0, [132, 64], [8448, 8448, S]),
+    (1, [133, 64], [8512, 8512, S]),
+    (1, [132, 65], [8580, 8580, S]),
+    (1, [0, 2], [0, 0, S]),
+    (1, [8, 0], [0, 0, S]),
+    (1, [0, 0], [1, 1, S]),
+    (1, [256 + 8, 2], [16, 16, S]),
+    (1, [8, (1 << 32) + 2], [16, 16, S]),
+    (1, [usize::MAX, usize::MAX], [1, 1, S]),
+    (2, [8, 2], [15, 16, S]),
+    (2, [8, 2], [17, 16, S]),
+    (2, [8, 2], [16, 15, S]),
+    (2, [8, 2], [16, 17, S]),
+    (2, [8, 2], [0, 0, S]),
+    (255, [8, 2], [16, 16, S - 1]),
+    (255, [8, 2], [16, 16, S + 1]),
+    (255, [8, 2], [16, 16, 15]),
     (255, [0, 0], [1, 1, 0]),
 ];
 
@@ -253,18 +247,13 @@ fn open_done_and_refused() {
     }
 }
 
-fn fresh(width: u8, height: u8) -> Vec<u8> {
-    let mut session = vec![0; SESSION_LENGTH];
-    session[..2].copy_from_slice(&[width, height]);
-    session
-}
-
 #[test]
 fn a_refused_open_leaves_a_session_that_is_refused() {
     let (mut chars, mut attrs, mut reply) = ([0; 2], [0; 2], [0; 99]);
     let refused = terminal::open(2, 0, &mut chars, &mut attrs);
     assert_eq!(refused, Err((Refusal::Size, Session::default())));
     let mut session = Session::default();
+    assert_eq!(session.as_bytes()[..], fresh(0, 0));
     let host = session.host_bytes(b"A", &mut chars, &mut attrs, &mut reply);
     let key = session.key(9, &mut chars, &attrs, &mut reply);
     assert_eq!((host, key), (Err(Refusal::Size), Err(Refusal::Size)));
@@ -276,7 +265,7 @@ fn a_refused_open_leaves_a_session_that_is_refused() {
 type Worked = (
     &'static str,
     [u8; 2],
-    Call,
+    Call<'static>,
     &'static [u8; 16],
     [u8; 2],
     &'static [u8],
@@ -314,18 +303,18 @@ const WORKED: &[Worked] = &[
 #[test]
 fn worked_forms() {
     for &(name, [x, y], call, screen, cursor, reply) in WORKED {
-        let mut lent = Lent::form(x, y);
+        let mut lent = form(x, y);
         let taken = match call {
             Host(input) => input.len(),
             Key(_) => 1,
         };
         assert_eq!(lent.call(call), (0, taken, reply.len()), "{name}");
-        let mut after = Lent::form(cursor[0], cursor[1]);
+        let mut after = form(cursor[0], cursor[1]);
         after.chars.copy_from_slice(screen);
         after.reply[..reply.len()].copy_from_slice(reply);
         assert_eq!(lent, after, "{name}");
     }
-    Lent::form(6, 0).refuses(6, Key('A' as u32));
+    form(6, 0).refuses(6, Key('A' as u32));
 }
 
 #[test]
@@ -357,7 +346,7 @@ const TAKING: &[(usize, &[u8], usize, usize)] = &[
 #[test]
 fn bytes_are_taken_while_there_is_room() {
     for &(room, input, taken, written) in TAKING {
-        let mut lent = Lent::form(3, 0);
+        let mut lent = form(3, 0);
         lent.reply = vec![LENT; room];
         let answer = lent.call(Host(input));
         assert_eq!(answer, (0, taken, written), "{input:x?} with {room}");
@@ -374,50 +363,58 @@ const STREAM: &[u8] =
     \xff\xfa\xff\xff\x01\xff\xf0\xff\xfa\x14\x15\xff\xfd\x07\xff\xfa\x14\x15\xff\xf0\
     \xff\xfa\x14\x26\xfd\xff\xf0\xff\xfa\x14\x01\x02\x03\x04\x05\x06\x07\xff";
 
-fn streamed(mut lent: Lent, pieces: &[&'static [u8]]) -> (Lent, Vec<u8>) {
-    let mut replies = Vec::new();
-    for piece in pieces {
-        let (number, taken, written) = lent.call(Host(piece));
-        assert_eq!((number, taken), (0, piece.len()));
-        replies.extend(&lent.reply[..written]);
-        lent.reply.fill(LENT);
-        let bytes = lent.session.try_into().expect("the length stays");
-        let session = Session::from_bytes(bytes).expect("a call leaves a session");
-        lent.session = session.as_bytes().to_vec();
-    }
-    (lent, replies)
-}
-
 #[test]
 fn a_stream_may_be_cut_anywhere() {
-    let mut lent = Lent::form(3, 0);
+    let mut lent = form(3, 0);
     lent.session[at::ON] = 0;
     lent.attrs.fill(0);
     lent.reply = vec![LENT; 1000];
-    let whole = streamed(lent.clone(), &[STREAM]);
-    let session = &whole.0.session;
-    assert_eq!(session[at::ON..], [1, 1, 9, 20, 1, 2, 3, 4, 5, 6, 6]);
-    for cut in 0..STREAM.len() {
-        let pieces = [&STREAM[..cut], &STREAM[cut..]];
-        assert_eq!(streamed(lent.clone(), &pieces), whole, "cut at {cut}");
+    let (after, _) = cut_anywhere(&lent, STREAM);
+    let frame_and_reader = [1, 0, 1, 9, 20, 6, 1, 2, 3, 4, 5, 6, 0];
+    assert_eq!(after.session[at::ON..at::PARAMETERS], frame_and_reader);
+}
+
+/// A session of which no part is 0 where it can be something else: `reader`
+/// is where the reader stands, `stage` where a message does.
+fn whole(reader: u8, stage: u8) -> [u8; SESSION_LENGTH] {
+    let mut bytes = [0; SESSION_LENGTH];
+    let option = if reader < 8 { 0 } else { 30 };
+    bytes[..at::HELD].copy_from_slice(&[2, 37, 2, 36, 1, 1, 1, 1, reader, option, 6]);
+    bytes[at::HELD..at::PARAMETERS].copy_from_slice(&[9, 8, 255, 1, 5, 4, 1]);
+    bytes[at::PARAMETERS..at::LINE_LENGTH].copy_from_slice(&MOST);
+    bytes[at::LINE_LENGTH] = 100;
+    for (byte, place) in (1..).zip(at::LINE..at::STAGE) {
+        bytes[place] = byte;
     }
-    let bytes: Vec<_> = STREAM.chunks(1).collect();
-    assert_eq!(streamed(lent, &bytes), whole);
+    let (code, waiting) = [(0, 0), (7, 0), (7, 200)][usize::from(stage)];
+    bytes[at::STAGE..at::COPY].copy_from_slice(&[stage, code, waiting]);
+    bytes[at::COPY..].copy_from_slice(&MOST);
+    bytes
+}
+
+fn is_session(bytes: &[u8; SESSION_LENGTH]) -> bool {
+    let flags = [at::ON, at::PAD_ON, at::SUPPRESSED, at::CR];
+    let reader = match bytes[at::READER] {
+        0..=7 => bytes[at::OPTION] == 0,
+        8 | 9 => true,
+        _ => false,
+    };
+    let message = [bytes[at::STAGE], bytes[at::CODE], bytes[at::WAITING]];
+    let message = matches!(message, [0, 0, 0] | [1, _, 0] | [2, _, _]);
+    let version = bytes[at::VERSION] == SESSION_VERSION;
+    version && flags.iter().all(|flag| bytes[*flag] <= 1) && reader && message
 }
 
 #[test]
 fn the_bytes_of_a_session() {
-    for reader in 0..=255 {
+    for (reader, stage) in (0..=9).flat_map(|reader| [0, 1, 2].map(|stage| (reader, stage))) {
         for place in 0..SESSION_LENGTH {
             for byte in 0..=255 {
-                let mut bytes = [8, 2, 3, 0, 1, 0, reader, 0, 1, 2, 3, 4, 5, 6, 6];
+                let mut bytes = whole(reader, stage);
                 bytes[place] = byte;
-                let [.., on, suppressed, reader, option, _, _, _, _, _, _, _] = bytes;
-                let flags = on <= 1 && suppressed <= 1;
-                let is_session = flags && (reader < 8 && option == 0 || [8, 9].contains(&reader));
                 let session = Session::from_bytes(bytes);
                 let kept = session.as_ref().map(Session::as_bytes);
-                assert_eq!(kept, is_session.then_some(&bytes), "{bytes:?}");
+                assert_eq!(kept, is_session(&bytes).then_some(&bytes), "{bytes:?}");
             }
         }
     }
@@ -425,16 +422,18 @@ fn the_bytes_of_a_session() {
 
 #[test]
 fn a_session_is_read_and_written_as_the_same_bytes() {
-    for reader in 0..=9 {
-        for flags in 0..4 {
+    for (reader, stage) in (0..=9).flat_map(|reader| [0, 1, 2].map(|stage| (reader, stage))) {
+        for flags in 0..16 {
             for count in 0..=6 {
-                let (on, suppressed) = (flags & 1, flags >> 1);
-                let option = if reader < 8 { 0 } else { 200 + count };
-                let session = [
-                    8, 2, 7, 1, on, suppressed, reader, option, 9, 8, 255, 0, 5, 4, count,
-                ];
-                let mut lent = Lent::form(0, 0);
-                lent.session.copy_from_slice(&session);
+                let mut lent = Lent::open(37, 2);
+                lent.session = whole(reader, stage).to_vec();
+                for (bit, flag) in [at::ON, at::PAD_ON, at::SUPPRESSED, at::CR]
+                    .iter()
+                    .enumerate()
+                {
+                    lent.session[*flag] = flags >> bit & 1;
+                }
+                lent.session[at::HELD_COUNT] = count;
                 let before = lent.clone();
                 assert_eq!(lent.call(Host(b"")), (0, 0, 0));
                 assert_eq!(lent, before);
@@ -445,14 +444,27 @@ fn a_session_is_read_and_written_as_the_same_bytes() {
 
 #[test]
 fn the_parts_of_a_session() {
-    let bytes = [132, 64, 131, 63, 1, 0, 8, 24, 1, 2, 3, 4, 5, 6, 3];
+    let mut bytes = whole(8, 2);
+    bytes[at::WIDTH..at::ON].copy_from_slice(&[132, 64, 131, 63]);
+    (bytes[at::SUPPRESSED], bytes[at::HELD_COUNT]) = (0, 3);
     let session = Session::from_bytes(bytes).expect("a session");
     assert_eq!((session.width(), session.height()), (132, 64));
     assert_eq!(session.cursor(), Cursor { x: 131, y: 63 });
     assert_eq!((session.is_on(), session.is_suppressed()), (true, false));
-    assert_eq!(session.reader(), Reader::Sub(24));
-    assert_eq!(session.held(), [1, 2, 3, 4, 5, 6]);
+    assert_eq!(session.reader(), Reader::Sub(30));
+    assert_eq!(session.held(), [9, 8, 255, 1, 5, 4]);
     assert_eq!(session.held_count(), 3);
+    assert!(session.is_pad_on());
+    assert!(session.line().iter().copied().eq(1..=100));
+    assert_eq!(session.parameters(), MOST);
+}
+
+#[test]
+fn a_line_that_is_too_long() {
+    let mut bytes = whole(0, 0);
+    bytes[at::LINE_LENGTH] = 255;
+    let session = Session::from_bytes(bytes).expect("a session");
+    assert!(session.line().iter().copied().eq(1..=128));
 }
 
 /// What the host sends, and where the reader stands then.
@@ -484,7 +496,7 @@ fn where_the_reader_stands() {
 fn refusals_have_their_numbers() {
     for number in 0..=255 {
         let refusal = Refusal::of_number(number);
-        let expected = (1..=9).contains(&number).then_some(number);
+        let expected = (1..=10).contains(&number).then_some(number);
         assert_eq!(refusal.map(Refusal::number), expected);
     }
     let said = Refusal::Guarded.to_string();

@@ -1,7 +1,8 @@
 //! `include/det.h` and this crate have the same numbers.
 
 use host::refusal::Refusal;
-use host::terminal::{at, reply_room, Reader, Session, SESSION_LENGTH};
+use host::terminal::{at, reply_room, Reader, Session};
+use host::terminal::{LINE_MOST, PAD_CELLS, PARAMETER_COUNT, SESSION_LENGTH, SESSION_VERSION};
 
 const HEADER: &str = include_str!("../../include/det.h");
 
@@ -18,23 +19,53 @@ fn number(name: &str) -> usize {
 #[test]
 fn the_layout_of_a_session() {
     let parts = [
+        ("VERSION", at::VERSION),
         ("WIDTH", at::WIDTH),
         ("HEIGHT", at::HEIGHT),
         ("X", at::X),
         ("Y", at::Y),
         ("ON", at::ON),
+        ("PAD_ON", at::PAD_ON),
         ("SUPPRESSED", at::SUPPRESSED),
         ("READER", at::READER),
         ("OPTION", at::OPTION),
-        ("HELD", at::HELD),
         ("HELD_COUNT", at::HELD_COUNT),
+        ("HELD", at::HELD),
+        ("CR", at::CR),
+        ("PARAMETERS", at::PARAMETERS),
+        ("LINE_LENGTH", at::LINE_LENGTH),
+        ("LINE", at::LINE),
+        ("STAGE", at::STAGE),
+        ("CODE", at::CODE),
+        ("WAITING", at::WAITING),
+        ("COPY", at::COPY),
     ];
     for (name, place) in parts {
         assert_eq!(number(&format!("DET_AT_{name}")), place, "{name}");
     }
     assert_eq!(number("DET_SESSION_LENGTH"), SESSION_LENGTH);
+    assert_eq!(number("DET_SESSION_VERSION"), usize::from(SESSION_VERSION));
     assert!(HEADER.contains("DET_REPLY_ROOM(m, n) ((size_t)7 * (m) * (n) + 2)"));
     assert_eq!(reply_room(132, 64), 7 * 132 * 64 + 2);
+}
+
+#[test]
+fn option_30() {
+    assert_eq!(number("DET_PAD_CELLS"), PAD_CELLS);
+    assert_eq!(number("DET_LINE_MOST"), LINE_MOST);
+    assert_eq!(number("DET_PARAMETER_COUNT"), PARAMETER_COUNT);
+    let place = "DET_AT_PARAMETER(p) (DET_AT_PARAMETERS + ((p) < 128 ? (p) : (p) - 105))";
+    assert!(HEADER.contains(place));
+    let mut bytes = *Session::default().as_bytes();
+    for (value, place) in (100..).zip(at::PARAMETERS..at::LINE_LENGTH) {
+        bytes[place] = value;
+    }
+    let session = Session::from_bytes(bytes).expect("no value makes it anything else");
+    let by_number = (0..=255).filter_map(|number| session.parameter(number));
+    assert!(by_number.eq(100..128));
+    assert!(session.parameters().iter().copied().eq(100..128));
+    assert_eq!(session.parameter(22), Some(100 + 22));
+    assert_eq!(session.parameter(128), Some(100 + 128 - 105));
 }
 
 #[test]
@@ -49,6 +80,7 @@ fn refusals() {
         ("CLASS", Refusal::Class),
         ("OFF", Refusal::Off),
         ("NO_MEANING", Refusal::NoMeaning),
+        ("LINE_FULL", Refusal::LineFull),
     ];
     for (name, refusal) in names {
         let expected = usize::from(refusal.number());
@@ -71,7 +103,7 @@ fn where_the_reader_stands() {
         ("SUB_IAC", Reader::SubIac(0)),
     ];
     for (name, reader) in names {
-        let mut bytes = [0; SESSION_LENGTH];
+        let mut bytes = *Session::default().as_bytes();
         bytes[at::READER] = number(&format!("DET_READER_{name}")) as u8;
         let session = Session::from_bytes(bytes);
         assert_eq!(session.map(|session| session.reader()), Some(reader));

@@ -8,10 +8,13 @@ fn answers(script: &[u8]) -> String {
     String::from_utf8(output).expect("answers are ASCII")
 }
 
-/// A script, and its last answer.
-const ANSWERS: &[(&str, &str)] = &[
+/// What an answer ends with after open: option 30 off, an empty line, the
+/// parameters at their start.
+const AT_START: &str = " 0 - 00000000000000000000000000000000000000000000000000131100";
+
+/// A script of calls, and its last answer up to option 30.
+const CALLS: &[(&str, &str)] = &[
     ("host 41 3", "1 0 0 a5a5a5 0 0 0 0 0 0 - -"),
-    ("state", "data - 0 000000000000"),
     ("cursor 3 4\nkey 65 1", "1 0 0 a5 0 0 3 4 0 0 - -"),
     ("open 2 1 2 2", "0 0 0 - 2 1 0 0 0 0 2020 0000"),
     ("open 2 1 2 3", "2 0 0 - 0 0 0 0 0 0 2a2a 111111"),
@@ -44,6 +47,26 @@ const ANSWERS: &[(&str, &str)] = &[
         "4 0 0 - 1 1 0 0 0 0 20 00",
     ),
     (
+        "open 1 1 1 1\nhost fffd1e 9",
+        "0 3 3 fffc1ea5a5a5a5a5a5 1 1 0 0 0 0 20 00",
+    ),
+    (
+        "open 37 1 37 37\npad 1\npad 0\nopen 1 1 1 1",
+        "0 0 0 - 1 1 0 0 0 0 20 00",
+    ),
+];
+
+#[test]
+fn each_call_is_answered() {
+    for (script, expected) in CALLS {
+        check(script, &format!("{expected}{AT_START}"));
+    }
+}
+
+/// A script, and its last answer.
+const OTHERS: &[(&str, &str)] = &[
+    ("state", "data - 0 000000000000"),
+    (
         "open 1 1 1 1\nhost fffa18ff 9\nheld 255\nstate",
         "sub-iac 24 255 000000000000",
     ),
@@ -52,14 +75,73 @@ const ANSWERS: &[(&str, &str)] = &[
         "sub 24 2 010200000000",
     ),
     ("chars -\nattrs -", "set"),
+    ("pad 1", "set"),
 ];
 
 #[test]
-fn each_line_is_answered() {
-    for (script, expected) in ANSWERS {
+fn each_other_line_is_answered() {
+    for (script, expected) in OTHERS {
+        check(script, expected);
+    }
+}
+
+fn check(script: &str, expected: &str) {
+    let answers = answers(script.as_bytes());
+    assert_eq!(answers.lines().count(), script.lines().count(), "{script}");
+    assert_eq!(answers.lines().last(), Some(expected), "{script}");
+}
+
+/// What is done on a screen of 37 by 1 with option 30 on, and what the last
+/// answer says of the option.
+const PADS: &[(&str, &str)] = &[
+    (
+        "host - 261",
+        "1 - 00000000000000000000000000000000000000000000000000131100",
+    ),
+    (
+        "key 65 261\nkey 66 261",
+        "1 4142 00000000000000000000000000000000000000000000000000131100",
+    ),
+    (
+        "host fffa1e00800181178403ff 261",
+        "1 - 00000000000000000000000000000000000000000000000000131100",
+    ),
+    (
+        "host fffa1e0080018117840102010302fff0 261",
+        "1 - 00000102000000000000000000000000000000000000000117131101",
+    ),
+    (
+        "host fffa1e00800181170302fff0 261\nhost fffa1e008000fff0 261\nkey 65 261",
+        "1 41 00000002000000000000000000000000000000000000000017131100",
+    ),
+    (
+        "key 65 261\npad 0\nkey 66 261",
+        "0 41 00000000000000000000000000000000000000000000000000131100",
+    ),
+    (
+        "key 65 261\nhost fffe1e 261",
+        "0 - 00000000000000000000000000000000000000000000000000131100",
+    ),
+];
+
+#[test]
+fn answers_tell_of_option_30() {
+    for (script, expected) in PADS {
+        let answers = answers(format!("open 37 1 37 37\npad 1\n{script}").as_bytes());
+        let last = answers.lines().last().unwrap_or_default();
+        assert!(last.starts_with("0 "), "{script}: {last}");
+        let fields: Vec<&str> = last.split(' ').skip(12).collect();
+        assert_eq!(fields.join(" "), *expected, "{script}");
+    }
+}
+
+#[test]
+fn option_30_wants_37_cells() {
+    for (cells, number) in [(36, '4'), (37, '0')] {
+        let script = format!("open {cells} 1 {cells} {cells}\npad 1\nkey 65 999");
         let answers = answers(script.as_bytes());
-        assert_eq!(answers.lines().count(), script.lines().count(), "{script}");
-        assert_eq!(answers.lines().last(), Some(*expected), "{script}");
+        let last = answers.lines().last().unwrap_or_default();
+        assert!(last.starts_with(number), "{cells}: {last}");
     }
 }
 
@@ -79,6 +161,9 @@ const BAD: &[&str] = &[
     "det +1",
     "det 1\r",
     "suppress -1",
+    "pad",
+    "pad 2",
+    "pad 1 1",
     "held 256",
     "cursor 1",
     "cursor 1 256",

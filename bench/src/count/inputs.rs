@@ -19,6 +19,8 @@ pub struct Input {
     bytes: fn(usize) -> Vec<u8>,
     /// Whether every cell is protected when it comes.
     pub guarded: bool,
+    /// Whether option 20 is off and option 30 on.
+    pub to_line: bool,
     /// Whether it is text alone, for a peer that knows nothing else.
     pub text: bool,
 }
@@ -27,6 +29,7 @@ pub const TEXT: Input = Input {
     name: "text",
     bytes: |length| streams::text(length, b"\r\n"),
     guarded: false,
+    to_line: false,
     text: true,
 };
 
@@ -34,6 +37,7 @@ pub const SHORT_LINES: Input = Input {
     name: "short lines",
     bytes: streams::short_lines,
     guarded: false,
+    to_line: false,
     text: true,
 };
 
@@ -41,6 +45,7 @@ pub const ONE_A_LINE: Input = Input {
     name: "one character a line",
     bytes: streams::one_a_line,
     guarded: false,
+    to_line: false,
     text: true,
 };
 
@@ -58,14 +63,29 @@ pub const SHORT_GUARDED: Input = Input {
     ..SHORT_LINES
 };
 
+pub const TEXT_TO_LINE: Input = Input {
+    name: "text with option 30 on",
+    to_line: true,
+    text: false,
+    ..TEXT
+};
+
+pub const SHORT_TO_LINE: Input = Input {
+    name: "short lines with option 30 on",
+    to_line: true,
+    text: false,
+    ..SHORT_LINES
+};
+
 pub const FORMS: Input = Input {
     name: "forms",
     bytes: streams::forms,
     guarded: false,
+    to_line: false,
     text: false,
 };
 
-pub const INPUTS: [Input; 7] = [
+pub const INPUTS: [Input; 9] = [
     TEXT,
     Input {
         name: "text without line feeds",
@@ -76,10 +96,18 @@ pub const INPUTS: [Input; 7] = [
     ONE_A_LINE,
     GUARDED,
     SHORT_GUARDED,
+    TEXT_TO_LINE,
+    SHORT_TO_LINE,
     FORMS,
 ];
 
 impl Input {
+    /// Whether its bytes are those of another, and only the session or the
+    /// screen is not.
+    pub fn repeats(&self) -> bool {
+        self.guarded || self.to_line
+    }
+
     pub fn warm_up(&self) -> Vec<u8> {
         (self.bytes)(WARM_UP)
     }

@@ -4,7 +4,7 @@ use super::calls::counted;
 use super::counts::{shown, Both, Counts};
 use super::screens::{at, cursors, ALL_PROTECTED, BLANK, EACH_A_FIELD, FORM, SCREENS};
 use super::slow::{slowest_of, Slow};
-use crate::keys::KEYS;
+use crate::keys::{KEYS, LINE_KEYS};
 use crate::screens::Screen;
 use crate::size::{Size, LARGE, SMALL};
 use crate::table::{Row, Table, Verdict};
@@ -13,14 +13,21 @@ pub fn run() {
     for size in [SMALL, LARGE] {
         for screen in &SCREENS {
             for (key, key_name) in KEYS {
-                for cell in cursors(size) {
-                    let mut ours = at(screen, size, cell);
-                    // A refusal is counted too: it is what the key costs there.
-                    let press = || _ = ours.key(key);
-                    counted(&name(key_name, size, screen), 1, press);
-                }
+                press(key, key_name, size, screen);
             }
         }
+        for (key, key_name, line) in &LINE_KEYS {
+            press(*key, key_name, size, line);
+        }
+    }
+}
+
+fn press(key: u32, key_name: &str, size: Size, screen: &Screen) {
+    for cell in cursors(size) {
+        let mut ours = at(screen, size, cell);
+        // A refusal is counted too: it is what the key costs there.
+        let press = || _ = ours.key(key);
+        counted(&name(key_name, size, screen), 1, press);
     }
 }
 
@@ -61,6 +68,10 @@ pub fn table(counts: &Both) -> Table {
             format!("the slowest of ten: {name}"),
             on_any,
         ));
+    }
+    for (_, key, line) in &LINE_KEYS {
+        let in_it = |counts: &Counts, size| on(counts, key, size, line);
+        rows.push(row(counts, key, line.name.into(), in_it));
     }
     let (small, large) = (SMALL.to_string(), LARGE.to_string());
     let (small_before, large_before) = (format!("{small}, before"), format!("{large}, before"));

@@ -49,19 +49,19 @@ pub const ALL: [Side; 7] = [
     },
     Side {
         name: LIBTELNET,
-        suits: |input| !input.guarded,
+        suits: |input| !input.repeats(),
         open: |_| Some(Box::new(Libtelnet::new()?)),
         package: libtelnet::PACKAGE,
     },
     Side {
         name: MEMCHR,
-        suits: |input| !input.guarded,
+        suits: |input| !input.repeats(),
         open: |_| Some(Box::new(Memchr)),
         package: "",
     },
     Side {
         name: "memcpy",
-        suits: |input| !input.guarded,
+        suits: |input| !input.repeats(),
         open: |_| Some(Box::new(Memcpy(vec![0; 65536]))),
         package: "",
     },
@@ -79,6 +79,9 @@ fn ours(input: &Input) -> Option<Box<dyn Takes>> {
     if input.guarded {
         ours.attrs.fill(PROTECTED);
     }
+    if input.to_line {
+        ours.to_line();
+    }
     Some(Box::new(ours))
 }
 
@@ -86,6 +89,9 @@ fn core(input: &Input) -> Option<Box<dyn Takes>> {
     let mut core = RustCore::open(SMALL);
     if input.guarded {
         core.attrs.fill(PROTECTED);
+    }
+    if input.to_line {
+        core.to_line();
     }
     Some(Box::new(core))
 }

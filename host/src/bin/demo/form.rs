@@ -1,5 +1,7 @@
 //! The form, and the bytes with which the host paints it.
 
+use crate::telnet::{subnegotiation, turn_on, DET, IAC, SE};
+
 pub const WIDTH: usize = 40;
 pub const HEIGHT: usize = 8;
 
@@ -42,12 +44,6 @@ pub const FIELDS: [(Run, u8); 4] = [
     (run("given by", 11, 5, 16), ALPHABETIC),
 ];
 
-const IAC: u8 = 255;
-const DO: u8 = 253;
-const SB: u8 = 250;
-const SE: u8 = 240;
-const DET: u8 = 20;
-
 const MOVE_CURSOR: u8 = 5;
 const HOME: u8 = 12;
 const FORMAT_DATA: u8 = 36;
@@ -55,7 +51,7 @@ const FORMAT_DATA: u8 = 36;
 /// Turns option 20 on, writes the text, protects every cell, opens the fields
 /// and puts the cursor in the first.
 pub fn paint() -> Vec<u8> {
-    let mut bytes = vec![IAC, DO, DET];
+    let mut bytes = turn_on(DET);
     bytes.extend(TEXT.into_iter().flatten());
     bytes.extend(move_cursor(0, 0));
     bytes.extend(format_data(PROTECTED, (WIDTH * HEIGHT) as u16));
@@ -76,9 +72,8 @@ fn format_data(attribute: u8, cells: u16) -> Vec<u8> {
     subcommand(&[FORMAT_DATA, attribute, 0, high, low])
 }
 
-/// For bytes without an IAC, which would have to be doubled.
 fn subcommand(bytes: &[u8]) -> Vec<u8> {
-    [&[IAC, SB, DET], bytes, &[IAC, SE]].concat()
+    subnegotiation(DET, bytes)
 }
 
 /// The fields in what the terminal sends: each text stands after the end of a

@@ -8,10 +8,11 @@ const UNDERLINE: &str = "\x1b[4m";
 const REVERSE: &str = "\x1b[7m";
 const NORMAL: &str = "\x1b[0m";
 
-/// The screen in a frame. Styled, open cells are underlined and the cursor is
-/// reversed; it is named below in any case.
+/// The screen in a frame. Styled, a form's open cells are underlined and the
+/// cursor is reversed; it is named below in any case.
 pub fn screen(desk: &Desk, styled: bool, out: &mut impl Write) -> io::Result<()> {
     let (width, cursor) = (desk.session.width(), desk.session.cursor());
+    let is_open = |cell| desk.session.is_on() && !desk.is_protected(cell);
     let edge = "-".repeat(width);
     let cursor_cell = usize::from(cursor.y) * width + usize::from(cursor.x);
     writeln!(out, "  +{edge}+")?;
@@ -19,9 +20,9 @@ pub fn screen(desk: &Desk, styled: bool, out: &mut impl Write) -> io::Result<()>
         write!(out, "  |")?;
         for cell in y * width..(y + 1) * width {
             let char = char::from(desk.chars[cell]);
-            match (styled, cell == cursor_cell, desk.is_protected(cell)) {
+            match (styled, cell == cursor_cell, is_open(cell)) {
                 (true, true, _) => write!(out, "{REVERSE}{char}{NORMAL}")?,
-                (true, false, false) => write!(out, "{UNDERLINE}{char}{NORMAL}")?,
+                (true, false, true) => write!(out, "{UNDERLINE}{char}{NORMAL}")?,
                 _ => write!(out, "{char}")?,
             }
         }

@@ -1,63 +1,49 @@
-//! The steps, each shown and checked.
-
-use std::error::Error;
-use std::fmt::Display;
-use std::io::{self, IsTerminal, StdoutLock, Write};
+//! The first story: a dosing form painted, filled in and sent.
 
 use crate::desk::Desk;
 use crate::form::{self, FIELDS, NUMBER, WEIGHT};
-use crate::view;
+use crate::teller::{expect, Done, Teller};
 
 const BACK: u32 = 8;
 const TAB: u32 = 9;
 const SEND: u32 = 13;
 const DELETE: u32 = 127;
 
-type Done = Result<(), Box<dyn Error>>;
-
-struct Story {
+struct Dosing<'a> {
     desk: Desk,
+    teller: &'a mut Teller,
     /// The protected cells as the host has painted them.
     painted: Vec<(usize, u8, u8)>,
-    styled: bool,
-    paced: bool,
-    out: StdoutLock<'static>,
 }
 
-/// An error where a step does not come out as it should.
-pub fn tell() -> Done {
-    let styled = io::stdout().is_terminal();
-    let mut story = Story {
+pub fn tell(teller: &mut Teller) -> Done {
+    let mut dosing = Dosing {
         desk: Desk::open(form::WIDTH, form::HEIGHT)?,
+        teller,
         painted: Vec::new(),
-        styled,
-        paced: styled && io::stdin().is_terminal(),
-        out: io::stdout().lock(),
     };
-    story.paint()?;
-    story.type_weight()?;
-    story.delete()?;
-    story.on_the_number()?;
-    story.fill_in()?;
-    story.send()?;
-    story.say("Every step came out as it should.")
+    dosing.paint()?;
+    dosing.type_weight()?;
+    dosing.delete()?;
+    dosing.on_the_number()?;
+    dosing.fill_in()?;
+    dosing.send()
 }
 
-impl Story {
+impl Dosing<'_> {
     fn paint(&mut self) -> Done {
         self.say("1. The host paints the form and protects all of it but what is in brackets.")?;
         self.desk.host(&form::paint())?;
-        view::screen(&self.desk, self.styled, &mut self.out)?;
+        self.teller.screen(&self.desk)?;
         self.painted = self.desk.protected();
         let protected = self.painted.len();
         let open = self.desk.chars.len() - protected;
-        writeln!(
-            self.out,
+        self.say(&format!(
             "  {protected} cells are protected, {open} are open"
-        )?;
+        ))?;
         let lengths = FIELDS.iter().map(|(field, _)| usize::from(field.length));
         expect("open cells", open, lengths.sum())?;
-        self.pause()
+        self.teller.pause()
     }
 
     fn type_weight(&mut self) -> Done {
@@ -98,18 +84,18 @@ impl Story {
     fn send(&mut self) -> Done {
         self.say("6. The send key. The host reads the fields, and nothing that is protected:")?;
         let reply = self.desk.key(SEND)?;
-        view::bytes(&reply, &mut self.out)?;
+        self.teller.bytes(&reply)?;
         let texts = form::texts(&reply);
         for ((field, _), text) in FIELDS.iter().zip(&texts) {
-            writeln!(self.out, "  {:8} \"{text}\"", field.name)?;
+            self.say(&format!("  {:8} \"{text}\"", field.name))?;
         }
         let texts = texts.join("|");
         expect("fields sent", &*texts, "70.5  |350   |8 |Ann             ")?;
-        self.pause()
+        self.teller.pause()
     }
 
     fn say(&mut self, line: &str) -> Done {
-        Ok(writeln!(self.out, "{line}")?)
+        self.teller.say(line)
     }
 
     /// Keys that must be taken.
@@ -117,7 +103,7 @@ impl Story {
         for key in text.chars() {
             self.desk.key(key.into())?;
         }
-        Ok(writeln!(self.out, "  keys {text}: taken")?)
+        self.say(&format!("  keys {text}: taken"))
     }
 
     /// A key that must be refused with this number and leave the screen alone.
@@ -130,37 +116,20 @@ impl Story {
         if self.desk.chars != before {
             return Err(format!("key {name}: refused, but the screen has changed").into());
         }
-        Ok(writeln!(self.out, "  key {name}: {refusal}")?)
+        self.say(&format!("  key {name}: {refusal}"))
     }
 
     /// Shows the screen and checks every protected cell.
     fn show(&mut self) -> Done {
-        view::screen(&self.desk, self.styled, &mut self.out)?;
+        self.teller.screen(&self.desk)?;
         if self.desk.protected() != self.painted {
             return Err("a protected cell has changed".into());
         }
         let (number, protected) = (self.desk.text(&NUMBER), self.painted.len());
         let checked = "protected cells are as the host painted them";
-        writeln!(
-            self.out,
+        self.say(&format!(
             "  checked: patient {number}; all {protected} {checked}"
-        )?;
-        self.pause()
+        ))?;
+        self.teller.pause()
     }
-
-    fn pause(&mut self) -> Done {
-        if self.paced {
-            write!(self.out, "  Enter goes on ")?;
-            self.out.flush()?;
-            io::stdin().read_line(&mut String::new())?;
-        }
-        self.say("")
-    }
-}
-
-fn expect<T: PartialEq + Display>(what: &str, answer: T, expected: T) -> Done {
-    if answer != expected {
-        return Err(format!("{what}: {answer}, expected {expected}").into());
-    }
-    Ok(())
 }

@@ -1,10 +1,14 @@
 // The session and the lengths of the lent buffers, and what each order does to them.
 use crate::number::least;
+use crate::order::Call;
 use crate::order::Order;
+use crate::order::Setting;
 use crate::order::Switch;
 use det::operation::host_bytes;
 use det::operation::key;
 use rules::Answer;
+use rules::Frame;
+use rules::Pad;
 use rules::Reader;
 use rules::Session;
 
@@ -66,12 +70,6 @@ fn open(
 // Before the first order: as after an `open` that is refused, with empty buffers.
 pub(crate) fn fresh(chars: &mut [u8], attrs: &mut [u8]) -> Desk {
     open(0, 0, chars, 0, attrs, 0)
-}
-
-// A call with lent buffers.
-enum Call {
-    Host,
-    Key(u8),
 }
 
 fn made(
@@ -163,9 +161,19 @@ fn session_of(desk: Desk) -> Session {
     answer.session
 }
 
+pub(crate) fn frame_of(desk: Desk) -> Frame {
+    let session = session_of(desk);
+    session.frame
+}
+
 pub(crate) fn reader_of(desk: Desk) -> Reader {
     let session = session_of(desk);
     session.reader
+}
+
+pub(crate) fn pad_of(desk: Desk) -> Pad {
+    let session = session_of(desk);
+    session.pad
 }
 
 fn set_chars(desk: Desk, from: &[u8], chars: &mut [u8], length: usize) -> Desk {
@@ -205,6 +213,14 @@ fn set_switch(desk: Desk, switch: Switch, on: bool) -> Desk {
     desk
 }
 
+fn set(desk: Desk, setting: Setting) -> Desk {
+    match setting {
+        Setting::Cursor { x, y } => set_cursor(desk, x, y),
+        Setting::Held(count) => set_held(desk, count),
+        Setting::Switch { switch, on } => set_switch(desk, switch, on),
+    }
+}
+
 // Does what the order says.
 pub(crate) fn obey(
     desk: Desk,
@@ -223,31 +239,10 @@ pub(crate) fn obey(
         } => open(width, height, chars, c, attrs, a),
         Order::Chars(length) => set_chars(desk, bytes, chars, length),
         Order::Attrs(length) => set_attrs(desk, bytes, attrs, length),
-        Order::Cursor { x, y } => set_cursor(desk, x, y),
-        Order::Held(count) => set_held(desk, count),
-        Order::Switch { switch, on } => set_switch(desk, switch, on),
-        Order::Host { count, room } => called(
-            desk,
-            Call::Host,
-            bytes,
-            count,
-            chars,
-            attrs,
-            reply,
-            room,
-        ),
-        Order::Key { key: code, room } => called(
-            desk,
-            Call::Key(code),
-            bytes,
-            0,
-            chars,
-            attrs,
-            reply,
-            room,
-        ),
-        Order::State => desk,
-        Order::End => desk,
-        Order::Bad => desk,
+        Order::Set(setting) => set(desk, setting),
+        Order::Call { call, count, room } => {
+            called(desk, call, bytes, count, chars, attrs, reply, room)
+        }
+        _ => desk,
     }
 }

@@ -89,10 +89,20 @@ fn play(
     state
 }
 
-// Writes what is left, and answers whether all of the output was written.
-fn finish(out: &Block, sink: Sink) -> bool {
-    let last = sink::flush(out, sink);
-    !last.failed
+// Writes what is left, and says where the input could not be read or the output not be written.
+fn finish(out: &Block, state: State) {
+    let last = sink::flush(out, state.sink);
+    let source = state.source;
+    let stand = source.stand;
+    if let Stand::Failed = stand {
+        io::write_all(STDERR_FILENO, b"replay: standard input cannot be read\n");
+    }
+    if last.failed {
+        io::write_all(
+            STDERR_FILENO,
+            b"replay: standard output cannot be written\n",
+        );
+    }
 }
 
 fn main() {
@@ -110,16 +120,5 @@ fn main() {
         &mut reply,
         &mut out,
     );
-    let is_written = finish(&out, state.sink);
-    let source = state.source;
-    let stand = source.stand;
-    if let Stand::Failed = stand {
-        io::write_all(STDERR_FILENO, b"replay: standard input cannot be read\n");
-    }
-    if !is_written {
-        io::write_all(
-            STDERR_FILENO,
-            b"replay: standard output cannot be written\n",
-        );
-    }
+    finish(&out, state);
 }

@@ -21,6 +21,19 @@ pub enum Switch {
     Pad,
 }
 
+// What is set in the session without a call.
+pub enum Setting {
+    Cursor { x: u8, y: u8 },
+    Held(u8),
+    Switch { switch: Switch, on: bool },
+}
+
+// A call with lent buffers.
+pub enum Call {
+    Host,
+    Key(u8),
+}
+
 pub enum Order {
     Open {
         width: usize,
@@ -31,21 +44,11 @@ pub enum Order {
     // so many bytes replace the characters, or the attributes
     Chars(usize),
     Attrs(usize),
-    Cursor {
-        x: u8,
-        y: u8,
-    },
-    Held(u8),
-    Switch {
-        switch: Switch,
-        on: bool,
-    },
-    Host {
+    Set(Setting),
+    // with so many bytes of input, and a reply buffer of so many
+    Call {
+        call: Call,
         count: usize,
-        room: usize,
-    },
-    Key {
-        key: u8,
         room: usize,
     },
     State,
@@ -189,31 +192,33 @@ fn attrs(block: &mut [u8], source: Source, bytes: &mut [u8]) -> Parsed {
 fn cursor(block: &mut [u8], source: Source) -> Parsed {
     let x = field::number(block, source, 255);
     let y = field::number(block, x.source, 255);
-    let order = Order::Cursor {
+    let cursor = Setting::Cursor {
         x: x.value as u8,
         y: y.value as u8,
     };
-    closed(y.source, order)
+    closed(y.source, Order::Set(cursor))
 }
 
 fn held(block: &mut [u8], source: Source) -> Parsed {
     let count = field::number(block, source, 255);
-    closed(count.source, Order::Held(count.value as u8))
+    let held = Setting::Held(count.value as u8);
+    closed(count.source, Order::Set(held))
 }
 
 fn switching(block: &mut [u8], source: Source, switch: Switch) -> Parsed {
     let on = field::number(block, source, 1);
-    let order = Order::Switch {
+    let switched = Setting::Switch {
         switch: switch,
         on: on.value == 1,
     };
-    closed(on.source, order)
+    closed(on.source, Order::Set(switched))
 }
 
 fn host(block: &mut [u8], source: Source, bytes: &mut [u8]) -> Parsed {
     let count = field::bytes(block, source, bytes, INPUT);
     let room = field::number(block, count.source, ROOM);
-    let order = Order::Host {
+    let order = Order::Call {
+        call: Call::Host,
         count: count.value,
         room: room.value,
     };
@@ -223,8 +228,9 @@ fn host(block: &mut [u8], source: Source, bytes: &mut [u8]) -> Parsed {
 fn key(block: &mut [u8], source: Source) -> Parsed {
     let key = field::number(block, source, 255);
     let room = field::number(block, key.source, ROOM);
-    let order = Order::Key {
-        key: key.value as u8,
+    let order = Order::Call {
+        call: Call::Key(key.value as u8),
+        count: 0,
         room: room.value,
     };
     closed(room.source, order)

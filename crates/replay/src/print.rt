@@ -1,5 +1,8 @@
 // The line that answers an order.
+ghost use Prim.Native.Nat.{_<_};
 use crate::desk::Desk;
+use crate::desk::frame_of;
+use crate::desk::pad_of;
 use crate::desk::reader_of;
 use crate::number::least;
 use crate::order::Order;
@@ -10,7 +13,6 @@ use pad::line::EditLine;
 use pad::parameter::Values;
 use rules::Answer;
 use rules::Frame;
-use rules::Pad;
 use rules::Reader;
 use telnet::Phase;
 use telnet::Verb;
@@ -40,12 +42,13 @@ fn bytes(out: &mut [u8], sink: Sink, buffer: &[u8], length: usize) -> Sink {
     sink::bytes(out, spaced, &buffer[0..n])
 }
 
-// The answer's three numbers.
-fn numbers(out: &mut [u8], sink: Sink, answer: Answer) -> Sink {
+// The answer's three numbers, and the reply buffer.
+fn replied(out: &mut [u8], sink: Sink, answer: Answer, reply: &[u8], room: usize) -> Sink {
     let refusal = answer.refusal;
     let code = sink::number(out, sink, number_of(refusal) as u64);
     let taken = number(out, code, answer.taken);
-    number(out, taken, answer.written)
+    let written = number(out, taken, answer.written);
+    bytes(out, written, reply, room)
 }
 
 // The session's size, cursor and flags.
@@ -58,35 +61,24 @@ fn session(out: &mut [u8], sink: Sink, frame: Frame) -> Sink {
     flag(out, det, frame.suppressed)
 }
 
-fn line_bytes(out: &mut [u8], sink: Sink, buffer: &[u8; 128], length: usize) -> Sink {
-    bytes(out, sink, buffer, length)
-}
-
 fn edit_line(out: &mut [u8], sink: Sink, line: EditLine) -> Sink {
-    let buffer = line.bytes;
-    line_bytes(out, sink, &buffer, line.length())
-}
-
-fn parameter_bytes(out: &mut [u8], sink: Sink, held: &[u8; 28]) -> Sink {
-    bytes(out, sink, held, 28)
+    let characters = line.bytes;
+    bytes(out, sink, &characters, line.length())
 }
 
 fn parameters(out: &mut [u8], sink: Sink, values: Values) -> Sink {
     let held = values.held;
-    parameter_bytes(out, sink, &held)
+    bytes(out, sink, &held, 28)
 }
 
-// Whether option 30 is on, the characters that wait in the edit line, and the values of all parameters.
-fn pad(out: &mut [u8], sink: Sink, x3: bool, pad: Pad) -> Sink {
-    let switched = flag(out, sink, x3);
+// The line's end: whether option 30 is on, the characters that wait in the edit line, and the values of all parameters.
+fn local(out: &mut [u8], sink: Sink, desk: Desk) -> Sink {
+    let frame = frame_of(desk);
+    let pad = pad_of(desk);
+    let switched = flag(out, sink, frame.x3);
     let waiting = edit_line(out, switched, pad.line);
-    parameters(out, waiting, pad.values)
-}
-
-// The two buffers of the screen.
-fn buffers(out: &mut [u8], sink: Sink, desk: Desk, chars: &[u8], attrs: &[u8]) -> Sink {
-    let lettered = bytes(out, sink, chars, desk.chars);
-    bytes(out, lettered, attrs, desk.attrs)
+    let whole = parameters(out, waiting, pad.values);
+    sink::put(out, whole, b'\n')
 }
 
 fn answer(
@@ -97,55 +89,80 @@ fn answer(
     attrs: &[u8],
     reply: &[u8],
 ) -> Sink {
-    let answer = desk.answer;
-    let after = answer.session;
-    let frame = after.frame;
-    let counted = numbers(out, sink, answer);
-    let replied = bytes(out, counted, reply, desk.room);
-    let told = session(out, replied, frame);
-    let shown = buffers(out, told, desk, chars, attrs);
-    let whole = pad(out, shown, frame.x3, after.pad);
-    sink::put(out, whole, b'\n')
+    let counted = replied(out, sink, desk.answer, reply, desk.room);
+    let told = session(out, counted, frame_of(desk));
+    let lettered = bytes(out, told, chars, desk.chars);
+    let formatted = bytes(out, lettered, attrs, desk.attrs);
+    local(out, formatted, desk)
 }
 
-fn verb(out: &mut [u8], sink: Sink, verb: Verb) -> Sink {
+// By place where the reader may stand: its name, in eight letters with the spaces after it.
+const PLACES: [u8; 80] =
+    *b"data    iac     will    wont    do      dont    sb      sb-iac  sub     sub-iac ";
+
+fn verb_place(verb: Verb) -> usize
+    ensures { λ r. ⌜ r < 10 ⌝ }
+{
     match verb {
-        Verb::Will => sink::text(out, sink, b"will -"),
-        Verb::Wont => sink::text(out, sink, b"wont -"),
-        Verb::Do => sink::text(out, sink, b"do -"),
-        Verb::Dont => sink::text(out, sink, b"dont -"),
+        Verb::Will => 2,
+        Verb::Wont => 3,
+        Verb::Do => 4,
+        Verb::Dont => 5,
     }
 }
 
-fn inside(out: &mut [u8], sink: Sink, stand: &[u8], option: u8) -> Sink {
-    let named = sink::text(out, sink, stand);
-    byte(out, named, option)
-}
-
-// Where the reader stands, and the option of the subnegotiation that it is in.
-fn phase(out: &mut [u8], sink: Sink, phase: Phase) -> Sink {
+fn place(phase: Phase) -> usize
+    ensures { λ r. ⌜ r < 10 ⌝ }
+{
     match phase {
-        Phase::Rest => sink::text(out, sink, b"data -"),
-        Phase::Iac => sink::text(out, sink, b"iac -"),
-        Phase::Negotiating(named) => verb(out, sink, named),
-        Phase::Opening => sink::text(out, sink, b"sb -"),
-        Phase::OpeningIac => sink::text(out, sink, b"sb-iac -"),
-        Phase::Inside(option) => inside(out, sink, b"sub", option),
-        Phase::InsideIac(option) => inside(out, sink, b"sub-iac", option),
+        Phase::Rest => 0,
+        Phase::Iac => 1,
+        Phase::Negotiating(verb) => verb_place(verb),
+        Phase::Opening => 6,
+        Phase::OpeningIac => 7,
+        Phase::Inside(_) => 8,
+        Phase::InsideIac(_) => 9,
     }
 }
 
-fn held_bytes(out: &mut [u8], sink: Sink, six: &[u8; 6]) -> Sink {
-    bytes(out, sink, six, 6)
+// The letters up to the first space.
+fn word(out: &mut [u8], sink: Sink, letters: &[u8]) -> Sink {
+    let mut sink = sink;
+    let mut i = 0;
+    while i < letters.len() {
+        if letters[i] == b' ' {
+            return sink;
+        }
+        let next = sink::put(out, sink, letters[i]);
+        sink = next;
+        i += 1;
+    }
+    sink
+}
+
+fn name(out: &mut [u8], sink: Sink, phase: Phase) -> Sink {
+    let at = 8 * place(phase);
+    let names = PLACES;
+    word(out, sink, &names[at..at + 8])
+}
+
+// The option of the subnegotiation that the reader is in.
+fn option(out: &mut [u8], sink: Sink, phase: Phase) -> Sink {
+    match phase {
+        Phase::Inside(option) => byte(out, sink, option),
+        Phase::InsideIac(option) => byte(out, sink, option),
+        _ => sink::text(out, sink, b" -"),
+    }
 }
 
 fn state(out: &mut [u8], sink: Sink, reader: Reader) -> Sink {
     let stand = reader.phase;
     let held = reader.held;
     let six = held.bytes;
-    let placed = phase(out, sink, stand);
+    let named = name(out, sink, stand);
+    let placed = option(out, named, stand);
     let counted = byte(out, placed, held.count);
-    let whole = held_bytes(out, counted, &six);
+    let whole = bytes(out, counted, &six, 6);
     sink::put(out, whole, b'\n')
 }
 
@@ -167,8 +184,11 @@ pub(crate) fn line(
             chars: _,
             attrs: _,
         } => answer(out, sink, desk, chars, attrs, reply),
-        Order::Host { count: _, room: _ } => answer(out, sink, desk, chars, attrs, reply),
-        Order::Key { key: _, room: _ } => answer(out, sink, desk, chars, attrs, reply),
+        Order::Call {
+            call: _,
+            count: _,
+            room: _,
+        } => answer(out, sink, desk, chars, attrs, reply),
         Order::State => state(out, sink, reader_of(desk)),
         Order::End => sink,
         Order::Bad => bad_line(out, sink, number),

@@ -73,7 +73,13 @@ pub(crate) fn number(out: &mut [u8], sink: Sink, n: u64) -> Sink {
     text(out, sink, &digits[0..count])
 }
 
-// Bytes in hexadecimal, or a dash where there are none.
+// A byte, in hexadecimal.
+fn digits(out: &mut [u8], sink: Sink, byte: u8) -> Sink {
+    let high = put(out, sink, hex::high(byte));
+    put(out, high, hex::low(byte))
+}
+
+// Bytes, or a dash where there are none.
 pub(crate) fn bytes(out: &mut [u8], sink: Sink, bytes: &[u8]) -> Sink {
     if bytes.len() == 0 {
         return put(out, sink, b'-');
@@ -81,9 +87,8 @@ pub(crate) fn bytes(out: &mut [u8], sink: Sink, bytes: &[u8]) -> Sink {
     let mut sink = sink;
     let mut i = 0;
     while i < bytes.len() {
-        let high = put(out, sink, hex::high(bytes[i]));
-        let low = put(out, high, hex::low(bytes[i]));
-        sink = low;
+        let next = digits(out, sink, bytes[i]);
+        sink = next;
         i += 1;
     }
     sink

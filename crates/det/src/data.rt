@@ -47,7 +47,8 @@ pub(crate) fn obey_data(
     chars: &mut [u8],
     attrs: &[u8],
 ) -> Frame
-    ensures { λ r. ⌜ Changes (dataEffect (seen frame (attrs .entry)) lf cr byte) (lent (chars .entry) (attrs .entry)) r (now (chars .exit)) ⌝ }
+    ensures { λ r. ⌜ Changes (dataEffect (seen frame (attrs .entry)) lf cr byte)
+        (lent (chars .entry) (attrs .entry)) r (now (chars .exit)) ⌝ }
 {
     let passed = is_passed(frame, lf, cr, byte);
     if passed {

@@ -185,6 +185,8 @@ lines =
     ∷ case "CR and LF in two calls, a key between" (ward [] [])
     (bytes (13 ∷ []) (afterCr true) [] ∷ types 97 (padded (holding [] (97 ∷ []))) [] ∷ bytes (verb 252 3) unchanged []
     ∷ bytes (10 ∷ []) (afterCr false) [] ∷ bytes (10 ∷ []) (at 0 1) [] ∷ [])
+    ∷ case "subnegotiations that end, have no option and are thrown away between them" (ward [] [])
+    (bytes (13 ∷ 255 ∷ 250 ∷ 3 ∷ 9 ∷ 255 ∷ 240 ∷ 255 ∷ 250 ∷ 255 ∷ 240 ∷ 255 ∷ 250 ∷ 3 ∷ 9 ∷ 255 ∷ 252 ∷ 3 ∷ 10 ∷ []) unchanged [] ∷ [])
     ∷ case "IAC IAC between them is a byte of data" (ward [] []) (bytes (13 ∷ 255 ∷ 255 ∷ 10 ∷ []) (at 0 1) [] ∷ [])
     ∷ case "LF is obeyed while DET is on" (modes true false (ward [] [])) (bytes (13 ∷ 10 ∷ []) (at 0 1) [] ∷ [])
     ∷ case "LF is obeyed while 30 is off" (editing false (ward [] [])) (bytes (13 ∷ 10 ∷ []) (at 0 1) [] ∷ [])
@@ -192,7 +194,7 @@ lines =
 
 pub lines-pass : Passes lines
 unfolding computing seeing lines
-lines-pass = (tt, (tt, (tt, (tt, (tt, (tt, tt))))))
+lines-pass = (tt, (tt, (tt, (tt, (tt, (tt, (tt, tt)))))))
 
 -- ---- refusal 4
 

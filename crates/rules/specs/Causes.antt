@@ -83,7 +83,8 @@ changers x3 = switches 30 (253 ∷ 254 ∷ [])
 -- nothing but 38 and DONT 20
 changers suppression =
     record { text = none; executed = 38 ∷ []; failed = []; option = 20; verbs = 254 ∷ []; messages = []; keys = none; typed = none }
--- nothing but host text, 37, the shifts 15, 16 and key 127, the erasures 29 to 35, typing, and what the edit line echoes; a 0 echoes nothing
+-- nothing but host text, 37, the shifts 15, 16 and key 127, the erasures 29 to 35, typing, and what the edit line echoes, where a 0
+-- shows nothing
 changers characters =
     record {
       text = printableOr [];

@@ -102,7 +102,8 @@ pub record Tells (r : Reader) (input : List ℕ) (from : ℕ) (t : Told) : Type 
   pub phase : Phase
   pub before : Pad → Pad
   pub quiet : (f : Frame) (p : Pad) (b : Screen)
-      → QuietRun (state (session f r p) b) input from (state (session f (record { phase = phase; held = t .held; cr = r .cr }) (before p)) b) last
+      → QuietRun (state (session f r p) b) input from
+      (state (session f (record { phase = phase; held = t .held; cr = r .cr }) (before p)) b) last
   pub values : (p : Pad) → before p .values ≡ p .values
   pub pad : (f : Frame) (p : Pad) → padAfter f (before p) (t .event) ≡ padAfter f p (t .event)
   pub lies : last < length input

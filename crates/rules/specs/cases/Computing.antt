@@ -45,10 +45,12 @@ use Rattle.rules.specs.Operation.{happening, hostByte, running, unless, 
 use Rattle.rules.specs.Call.{called, answersOf, stateAfter, executedBy, executedOf}
 
 unfoldable pub computing : ℕ
-unfolding bit parameters lines messages responses keys echoes printsLf reader doubled subnegotiation negotiation firstOf lastOf tabulate protectedAt startsAt opensAt fieldStart fieldEnd spanEnd
+unfolding bit parameters lines messages responses keys echoes printsLf reader doubled subnegotiation negotiation firstOf lastOf tabulate
+    protectedAt startsAt opensAt fieldStart fieldEnd spanEnd
     nextOpen deleted inserted shifted onPart erased formatted takes allPrintable padOk sessionOk ownMap verdict sizeTests stateTests rows
     rowIn meaning reaches valueFault faultOf changed changedAll spelled spelledAll nextCell homeCell backTabCell firstFieldCell
-    nextFieldCell previousOpenCell destination holding heldAfter crAfter optionOf isOn accepts turned switchedOn switchedOff negotiated hostCharacter hostCharacters
+    nextFieldCell previousOpenCell destination holding heldAfter crAfter optionOf isOn accepts turned switchedOn switchedOff
+    negotiated hostCharacter hostCharacters
     hostData hostText empties padAfter response lineTests padTyped typedTo passes fieldTexts
     transmitted erasure suppressing obeyed judged looked subcommand keyOf needsOf keyTests pressed happening hostByte running unless
     takenOf hostBytes oneKey opened called answersOf stateAfter executedBy executedOf

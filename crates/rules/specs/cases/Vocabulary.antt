@@ -142,7 +142,8 @@ unfoldable pub samePad : Pad → Pad → Bool
 samePad p q =
     same (p .values .held) (q .values .held)
     && (same (p .line .bytes) (q .line .bytes)
-    && (same (p .message .copy .held) (q .message .copy .held) && same (stageNumbers (p .message .stage)) (stageNumbers (q .message .stage))))
+    && (same (p .message .copy .held) (q .message .copy .held)
+    && same (stageNumbers (p .message .stage)) (stageNumbers (q .message .stage))))
 
 unfoldable pub sameSeen : Seen → Seen → Bool
 sameSeen a b =
@@ -202,7 +203,8 @@ framed m n x y det x3 suppressed = record { width = m; height = n; cursor = plac
 
 -- where the reader stands, and the bytes held
 abbrev reader : Phase → List ℕ → Bool → Reader
-reader phase held cr = record { phase = phase; held = record { bytes = held ++ replicate (6 - length held) 0; count = length held }; cr = cr }
+reader phase held cr =
+    record { phase = phase; held = record { bytes = held ++ replicate (6 - length held) 0; count = length held }; cr = cr }
 
 -- a start with DET on
 abbrev pub starting : ℕ → ℕ → Bool → List ℕ → List ℕ → ℕ → ℕ → State
@@ -220,7 +222,8 @@ abbrev pub modes : Bool → Bool → State → State
 modes det suppressed s =
     let f = s .session .frame in
     state
-    (session (framed (f .width) (f .height) (f .cursor .x .0) (f .cursor .y .0) det (f .x3) suppressed) (s .session .reader) (s .session .pad))
+    (session (framed (f .width) (f .height) (f .cursor .x .0) (f .cursor .y .0) det (f .x3) suppressed)
+    (s .session .reader) (s .session .pad))
     (s .screen)
 
 abbrev pub reading : Phase → List ℕ → State → State
@@ -235,7 +238,8 @@ abbrev pub editing : Bool → State → State
 editing x3 s =
     let f = s .session .frame in
     state
-    (session (framed (f .width) (f .height) (f .cursor .x .0) (f .cursor .y .0) (f .det) x3 (f .suppressed)) (s .session .reader) (s .session .pad))
+    (session (framed (f .width) (f .height) (f .cursor .x .0) (f .cursor .y .0) (f .det) x3 (f .suppressed))
+    (s .session .reader) (s .session .pad))
     (s .screen)
 
 abbrev pub padded : Pad → State → State

@@ -7,20 +7,20 @@ ghost use Rattle.rules.specs.Pad.{takesKey, lineTests, padTyped, sentAt, echoed
 ghost use Rattle.command.specs.Frame.{lent, seen};
 ghost use Rattle.text.specs.Text.{Changes};
 ghost use Rattle.pad.specs.Line.{textOf};
-ghost use Rattle.pad.specs.Echo.{bytesOf};
+ghost use Rattle.typing.specs.Echo.{bytesOf};
 use crate::told::with_line;
-use pad::echo::Echo;
-use pad::echo::echo_at;
-use pad::echo::echo_length;
-use pad::echo::echo_of;
-use pad::key::line_after;
-use pad::key::overfills;
 use pad::line::EditLine;
-use pad::out::write_out;
 use rules::Frame;
 use rules::Pad;
 use rules::Refusal;
 use text::data::take_data;
+use typing::echo::Echo;
+use typing::echo::echo_at;
+use typing::echo::echo_length;
+use typing::echo::echo_of;
+use typing::key::line_after;
+use typing::key::overfills;
+use typing::out::write_out;
 
 // Does the line take the key: option 30 on, DET off, and 0 to 127?
 pub fn takes_key(frame: Frame, code: u8) -> bool

@@ -1,7 +1,7 @@
 -- RFC 1053, section 6, and document 02, request (i): the parameters that are held, what each may be, where each starts.
 use mathlib.Core.Bool.{Bool, true, false, _&&_, _||_}
 use mathlib.Core.List.{List, [], _∷_, map}
-use Prim.Native.Nat.{ℕ, zero, suc, _+_, _-_}
+use Prim.Native.Nat.{ℕ, _+_, _-_}
 use lib.Dec.{eqb, ltb}
 use lib.ListN.{getD, set}
 use Rattle.words.specs.Words.{if_then_else_, between}

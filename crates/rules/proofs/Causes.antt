@@ -18,12 +18,12 @@ use Rattle.words.specs.Words.{if_then_else_, between}
 use Rattle.words.proofs.Laws.{either, true-or-false, not-both, and-left, and-right, and-off, in-between}
 use Rattle.pad.specs.declared.message.Stage.{Stage}
 use Rattle.pad.specs.declared.message.Stage.the-variants.{Code, Parameter, Value}
-use Rattle.pad.specs.declared.echo.Echo.{Echo}
+use Rattle.typing.specs.declared.echo.Echo.{Echo}
 use Rattle.pad.specs.Parameters.{valueOf}
 use Rattle.pad.specs.Line.{textOf, full}
 use Rattle.pad.specs.Message.{isSet, ended}
-use Rattle.pad.specs.Keys.{forwards, kindOf}
-use Rattle.pad.specs.Echo.{echoSet, echoed, keyEcho, plainEcho, echoBy, bytesOf, echoOf}
+use Rattle.typing.specs.Keys.{forwards, kindOf}
+use Rattle.typing.specs.Echo.{echoSet, echoed, keyEcho, plainEcho, echoBy, bytesOf, echoOf}
 use Rattle.rules.specs.declared.Held.{Held}
 use Rattle.rules.specs.declared.Reader.{Reader}
 use Rattle.rules.specs.declared.Pad.{Pad}

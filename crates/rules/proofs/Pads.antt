@@ -15,11 +15,11 @@ use Rattle.pad.specs.declared.message.Message.{Message}
 use Rattle.pad.specs.Parameters.{startValues, allAdmissible}
 use Rattle.pad.specs.Line.{textOf, lineOf, lineOk}
 use Rattle.pad.specs.Message.{idleMessage, begun, afterByte, ended}
-use Rattle.pad.specs.Keys.{lineAfter}
+use Rattle.typing.specs.Keys.{lineAfter}
 use Rattle.pad.proofs.ParameterLaws.{start-admissible}
-use Rattle.pad.proofs.LineLaws.{ok-length}
+use Rattle.pad.proofs.LineLaws.{ok-length, empty-ok}
 use Rattle.pad.proofs.MessageLaws.{idle-admissible, begun-admissible, byte-admissible, end-admissible}
-use Rattle.pad.proofs.KeyLaws.{line-stays-ok, empty-ok, out-most}
+use Rattle.typing.proofs.KeyLaws.{line-stays-ok, out-most}
 use Rattle.rules.specs.declared.Frame.{Frame}
 use Rattle.rules.specs.declared.Pad.{Pad}
 use Rattle.rules.specs.Session.{State, freshPad, padOk, lineTakesKeys}

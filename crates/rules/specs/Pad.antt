@@ -14,8 +14,8 @@ use Rattle.pad.specs.declared.message.Message.{Message}
 use Rattle.pad.specs.Line.{textOf, lineOf}
 use Rattle.pad.specs.Message.{idleMessage, begun, afterByte, ended}
 use Rattle.pad.specs.Response.{responseOf}
-use Rattle.pad.specs.Keys.{overfills, lineAfter, outOf}
-use Rattle.pad.specs.Echo.{echoOf}
+use Rattle.typing.specs.Keys.{overfills, lineAfter, outOf}
+use Rattle.typing.specs.Echo.{echoOf}
 use Rattle.pad.specs.Host.{printsLf}
 use Rattle.rules.specs.declared.Frame.{Frame}
 use Rattle.rules.specs.declared.Pad.{Pad}

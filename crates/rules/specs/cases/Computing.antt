@@ -7,8 +7,8 @@ use Rattle.pad.specs.Parameters.{parameters}
 use Rattle.pad.specs.Line.{lines}
 use Rattle.pad.specs.Message.{messages}
 use Rattle.pad.specs.Response.{responses}
-use Rattle.pad.specs.Keys.{keys}
-use Rattle.pad.specs.Echo.{echoes}
+use Rattle.typing.specs.Keys.{keys}
+use Rattle.typing.specs.Echo.{echoes}
 use Rattle.pad.specs.Host.{printsLf}
 use Rattle.screen.specs.Words.{firstOf, lastOf}
 use Rattle.screen.specs.Attributes.{protectedAt}

@@ -1,6 +1,6 @@
 -- `echo_key` meets its contract: the echo's bytes are written.
 use borrow.Author.Needs.{needs}
-use Rattle.pad.specs.Echo.{echoOf}
+use Rattle.typing.specs.Echo.{echoOf}
 use Rattle.local.proofs.typed.echo_key.Statement.{statement}
 use Rattle.local.proofs.typed.echo_key.Tie as tie
 

@@ -5,7 +5,7 @@ use native.Mathlib.Omega.{arith}
 use lib.ListN.{length}
 use borrow.Author.Needs.{needs}
 use Rattle.pad.specs.Line.{textOf}
-use Rattle.pad.specs.Echo.{bytesOf}
+use Rattle.typing.specs.Echo.{bytesOf}
 use Rattle.text.specs.inner.Text.{Texted}
 use Rattle.text.proofs.TextLaws.{texted-none, texted-more, texted-all}
 use Rattle.local.proofs.typed.write_echo.Statement.{statement}

@@ -1,5 +1,5 @@
 -- `prints_lf` meets its contract.
-use Rattle.pad.proofs.Kit.{_∙_, needs}
+use Rattle.pad.proofs.Kit.{needs}
 use Rattle.pad.specs.Host.{printsLf}
 use Rattle.pad.proofs.host.prints_lf.Statement.{statement}
 use Rattle.pad.proofs.host.prints_lf.Tie as tie
@@ -9,5 +9,5 @@ unfolding printsLf
 prints-lf-spec =
     tie.close
     (tie.spec
-    (search needs) (search needs)
-    (λ c. c .bit .ensures ∙ rw (c .before .value .ensures)))
+    (search needs)
+    (λ c. c .has .ensures))

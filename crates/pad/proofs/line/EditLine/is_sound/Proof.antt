@@ -21,7 +21,7 @@ is-sound-spec =
     (search needs) (search needs)
     (λ c. let l = c .before .before .before .before .before .before .args .self in
     let long : length (l .bytes) ≡ 128 = search needs in
-    (omega arith, typable-more (l .bytes) (c .before .before .loop .i) (omega (arith, long)) (c .if2 .left) (c .before .before .loop .inv .1)))
+    (omega arith, typable-more (l .bytes) (c .before .before .loop .i) (omega (arith, long)) (omega arith) (c .before .before .loop .inv .1)))
     (λ c. let l = c .before .before .before .before .before .args .self in
     let e : c .before .loop .i ≡ l .len = omega arith in
     within-ok l true (c .before .before .if1 .left) (rw e at (c .before .loop .inv .1))))

@@ -1,0 +1,5 @@
+pub mod Kit
+pub mod Worked
+pub mod EchoLaws
+pub mod OutLaws
+pub mod KeyLaws

@@ -1,0 +1,16 @@
+-- `character_signal` meets its contract: by parameter 19.
+use Rattle.typing.proofs.Kit.{needs, ne-eqb}
+use Rattle.typing.proofs.EchoLaws.{character-by}
+use Rattle.typing.proofs.echo.character_signal.Statement.{statement}
+use Rattle.typing.proofs.echo.character_signal.Tie as tie
+
+pub character-signal-spec : {M : Type 1} → statement M
+character-signal-spec =
+    tie.close
+    (tie.spec
+    (search needs)
+    (λ c. character-by (c .before .before .args .values) (c .before .before .args .count) (c .before .signal .ensures) (rw (c .match .keys1)))
+    (λ c. character-by (c .before .before .args .values) (c .before .before .args .count) (c .before .signal .ensures) (rw (c .match .keys2)))
+    (λ c. character-by (c .before .before .args .values) (c .before .before .args .count) (c .before .signal .ensures) (rw (c .match .keys3)))
+    (λ c. let r = c .match .rest in
+    character-by (c .before .before .args .values) (c .before .before .args .count) (c .before .signal .ensures) (rw (ne-eqb _ _ (r .0 .0 .1), ne-eqb _ _ (r .0 .1), ne-eqb _ _ (r .1)))))

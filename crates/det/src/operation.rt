@@ -19,6 +19,7 @@ use decide::keys::key_of;
 use decide::keys::press;
 use decide::keys::refuse_pressed;
 use local::message::take_byte;
+use local::told::ends_other;
 use local::told::pad_told;
 use local::typed::echo_key;
 use local::typed::refuse_line;
@@ -26,6 +27,7 @@ use local::typed::send_line;
 use local::typed::takes_key;
 use local::typed::type_key;
 use pad::host::prints_lf;
+use pad::message::idle;
 use reply::write_reply;
 use rules::Answer;
 use rules::Frame;
@@ -91,7 +93,12 @@ fn take_all(
             written,
         );
         let event = turn.event;
-        pad = pad_told(frame, pad, event);
+        let other = ends_other(event);
+        if other {
+            pad.message = idle();
+        } else {
+            pad = pad_told(frame, pad, event);
+        }
         frame = turn.frame;
         reader = turn.reader;
         taken = turn.end;

@@ -5,6 +5,7 @@ ghost use Rattle.words.specs.Words.{if_then_else_};
 ghost use Rattle.pad.specs.Line.{lineOf};
 ghost use Rattle.pad.specs.Message.{idleMessage, begun, afterByte, ended};
 ghost use Rattle.rules.specs.Pad.{isX3, counts, empties, padAfter, withMessage, withLine};
+ghost use Rattle.local.specs.Told.{endsOther};
 use command::number::X3;
 use pad::line::EditLine;
 use pad::message::Message;
@@ -117,6 +118,16 @@ fn ended_pad(frame: Frame, pad: Pad, option: u8) -> Pad
         values: values,
         line: line,
         message: idle(),
+    }
+}
+
+// Is it the end of a subnegotiation of another option? Then nothing of a message is half read, and the PAD is otherwise as before.
+pub fn ends_other(event: Event) -> bool
+    ensures { λ r. ⌜ r ≡ endsOther event ⌝ }
+{
+    match event {
+        Event::End(option) => option != X3,
+        _ => false,
     }
 }
 

@@ -1,11 +1,14 @@
 -- `take_all` meets its contract. The loop keeps `Taking`: the bytes taken did what the rules say.
-use mathlib.Core.Path.{_≡_, refl, sym, _∙_}
+use mathlib.Core.Path.{_≡_, refl, sym, ap, _∙_}
+use mathlib.Core.Logic.{⊎-elim}
 use Prim.Native.Nat.{_-_}
 use native.Mathlib.Omega.{arith}
 use borrow.Author.Needs.{needs}
 use lib.ListN.{length}
 use Rattle.rules.proofs.Running.{taken-end, taken-full}
 use Rattle.rules.specs.Session.{session, screen, state}
+use Rattle.rules.specs.Pad.{padAfter, withMessage}
+use Rattle.local.proofs.ToldLaws.{other-clears}
 use Rattle.det.specs.inner.Take.{Taking}
 use Rattle.det.proofs.HostLaws.{accepts-turn, taking-none, taking-then, taking-room, taking-accepts, taking-done}
 use Rattle.det.proofs.MessageLaws.{message-taking}
@@ -45,11 +48,12 @@ take-all-spec =
       accepts-turn _ _ _ (c .before .before .before .prints-lf .result) _ (l .loop .reply) (l .loop .written) a,
       (sym (m .before .in-message .ensures) ∙ m .if2 .left, i .before .loop-test .taken),
     ))
-    (λ c κs. search needs)
-    (λ c. let t = c .before .before .before .before .before .before .before .before .before in
+    (λ c κs. search needs) (λ c κs. search needs) (λ c κs. search needs)
+    (λ c. let t = c .before .before .before .before .before .before .before .before .before .before in
     omega (arith, t .take-turn .ensures .0, t .before .before .before .before .before .before .before .before .before .loop-test .taken))
-    (λ c. let q = c .before .before in
-    let at = q .before .before .before in
+    (λ c. let j = c .before .before in
+    let o = j .before in
+    let at = o .before .before .before in
     let ch = at .before .before in
     let t = ch .before .before in
     let p = t .before .before .before .before in
@@ -57,8 +61,13 @@ take-all-spec =
     let i = m .before .before in
     let l = i .before .before in
     let start = l .before .before .before .before .before .before .before .before .before in
-    let a = taking-accepts (l .loop .inv .0) (start .pre) (omega (arith, l .before .before .before .before .reply-room .ensures, i .if1 .left)) in (
-      taking-then (l .loop .inv .0) (rw (← q .pad-told .ensures) at (t .take-turn .ensures .1 _ (sym (p .prints-lf .ensures)) a)),
+    let a = taking-accepts (l .loop .inv .0) (start .pre) (omega (arith, l .before .before .before .before .reply-room .ensures, i .if1 .left)) in
+    let told : j .if3 .pad ≡ padAfter (l .loop .frame) (l .loop .pad) (t .take-turn .result .event) =
+    ⊎-elim
+    (λ w. w .2 ∙ ap (withMessage (l .loop .pad)) (w .1 .ensures) ∙ sym (other-clears _ _ _ (sym (o .ends-other .ensures) ∙ w .0 .taken)))
+    (λ w. w .2 ∙ w .1 .ensures)
+    (j .if3 .came) in (
+      taking-then (l .loop .inv .0) (rw (← told) at (t .take-turn .ensures .1 _ (sym (p .prints-lf .ensures)) a)),
       search (needs, ch .slice-known5 .given, ch .before .chars .given, l .loop .inv .1),
       search (needs, at .slice-known6 .given, at .before .attrs .given, l .loop .inv .2),
       search needs,

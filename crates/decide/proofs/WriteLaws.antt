@@ -18,13 +18,12 @@ use Rattle.rules.specs.declared.Refusal.the-variants.{Taken}
 use Rattle.rules.specs.declared.Destination.the-variants.{NextOpen}
 use Rattle.rules.specs.declared.Key.{Key}
 use Rattle.rules.specs.declared.Key.the-variants.{Typed}
-use Rattle.rules.specs.Session.{View, printable, placed, cursorCell, withCursor}
+use Rattle.rules.specs.Session.{View, printable, cursorCell, withCursor}
 use Rattle.rules.specs.Effect.{Effect, put, changing, quiet}
 use Rattle.rules.specs.Cursor.{cursorGuarded, destination}
 use Rattle.rules.specs.Telnet.{hostCharacter, hostData}
 use Rattle.rules.specs.Refusal.{isTaken, verdict}
 use Rattle.rules.specs.Key.{pressed, keyTests, needsOf, classAllows}
-use Rattle.rules.specs.declared.Frame.{Frame}
 use Rattle.decide.specs.declared.text.Writer.the-variants.{Host, Operator}
 use Rattle.decide.specs.declared.text.Fate.{Fate}
 use Rattle.decide.specs.declared.text.Fate.the-variants.{Written, Dropped, RefusedByGuard, RefusedByClass}
@@ -73,12 +72,12 @@ not-written Dropped h done none = refl
 not-written RefusedByGuard h done none = refl
 not-written RefusedByClass h done none = refl
 
-pub not-moved : (fate : Fate) → OneOf (1 ∷ 2 ∷ 3 ∷ []) (tagOf the-type fate) → (f : Frame) (next : Place) → f ≡ afterFate fate f next
+pub not-moved : (fate : Fate) → OneOf (1 ∷ 2 ∷ 3 ∷ []) (tagOf the-type fate) → (here next : Place) → here ≡ afterFate fate here next
 unfolding afterFate
-not-moved Written h f next = absurd (⊎-elim (λ p. omega arith) (⊎-elim (λ p. omega arith) (λ p. omega arith)) h)
-not-moved Dropped h f next = refl
-not-moved RefusedByGuard h f next = refl
-not-moved RefusedByClass h f next = refl
+not-moved Written h here next = absurd (⊎-elim (λ p. omega arith) (⊎-elim (λ p. omega arith) (λ p. omega arith)) h)
+not-moved Dropped h here next = refl
+not-moved RefusedByGuard h here next = refl
+not-moved RefusedByClass h here next = refl
 
 -- where the code's scan for the next open place goes, with the cursor on the screen
 pub next-open-is : {v : View} → Fits v →
@@ -88,9 +87,9 @@ next-open-is h = rw (lt-ltb _ _ (h .on .x), lt-ltb _ _ (h .on .y), eq-eqb _ _ (h
 
 -- a typed character that is not refused is written where the rule for its key says
 pub typed : {v : View} {c : ℕ} {w : Writing} → Writes v Operator c w → verdict (keyTests v (Typed c)) ≡ Taken
-    → w .frame ≡ placed (v .frame) (placeAfter Operator v)
+    → w .cursor ≡ placeAfter Operator v
 unfolding afterFate
-typed {v} {c} one e = one .frame ∙ rw (one .fate, typed-is-written v c e)
+typed {v} {c} one e = one .cursor ∙ rw (one .fate, typed-is-written v c e)
 
 -- host data that is no character
 pub control-is : (v : View) (b : ℕ) → printable b ≡ false → hostData v b ≡ controlOf v b

@@ -4,10 +4,9 @@ use Prim.Native.Nat.{ℕ}
 use Rattle.words.specs.Words.{if_then_else_}
 use Rattle.screen.specs.Classes.{takes}
 use Rattle.screen.specs.declared.cell.Place.{Place}
-use Rattle.rules.specs.declared.Frame.{Frame}
 use Rattle.rules.specs.declared.Key.{Key}
 use Rattle.rules.specs.declared.Destination.the-variants.{NextCell, NextOpen}
-use Rattle.rules.specs.Session.{View, placed, printable}
+use Rattle.rules.specs.Session.{View, printable}
 use Rattle.rules.specs.Effect.{Effect, quiet}
 use Rattle.rules.specs.Cursor.{cursorGuarded, destination}
 use Rattle.rules.specs.Telnet.{hostData}
@@ -30,16 +29,16 @@ abbrev pub placeAfter : Writer → View → Place
 placeAfter Host v = destination v NextCell
 placeAfter Operator v = destination v NextOpen
 
--- the frame after a character of this fate
-unfoldable pub afterFate : Fate → Frame → Place → Frame
-afterFate Written f next = placed f next
-afterFate Dropped f next = f
-afterFate RefusedByGuard f next = f
-afterFate RefusedByClass f next = f
+-- the cursor after a character of this fate
+unfoldable pub afterFate : Fate → Place → Place → Place
+afterFate Written here next = next
+afterFate Dropped here next = here
+afterFate RefusedByGuard here next = here
+afterFate RefusedByClass here next = here
 
 pub record Writes (v : View) (writer : Writer) (c : ℕ) (w : Writing) : Type 0 where
   pub fate : w .fate ≡ fateOf writer v c
-  pub frame : w .frame ≡ afterFate (w .fate) (v .frame) (placeAfter writer v)
+  pub cursor : w .cursor ≡ afterFate (w .fate) (v .frame .cursor) (placeAfter writer v)
 
 -- host data that is no character; a character is left to the others
 unfoldable pub controlOf : View → ℕ → Effect

@@ -26,6 +26,7 @@ use command::character::is_printable;
 use command::frame::cursor_cell;
 use command::frame::cursor_guarded;
 use command::frame::fits;
+use command::frame::moved;
 use command::number::FN;
 use edit::range::Shift;
 use rules::Area;
@@ -112,9 +113,10 @@ fn type_in(frame: Frame, attrs: &[u8], byte: u8) -> Decision
     ensures { λ r. ⌜ Decides (seen frame (attrs .entry)) r (λ v. pressed v (Key.Typed byte)) ⌝ }
 {
     let writing = write(frame, attrs, Writer::Operator, byte);
+    let next = writing.cursor;
     let cell = cursor_cell(frame);
     editing(
-        writing.frame,
+        moved(frame, next),
         Edit::Put {
             cell: cell,
             byte: byte,

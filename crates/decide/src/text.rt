@@ -3,7 +3,7 @@ ghost use mathlib.Core.Path.{_≡_};
 ghost use mathlib.Core.List.{List};
 ghost use Prim.Native.Nat.{ℕ};
 ghost use Rattle.screen.specs.Classes.{takes};
-ghost use Rattle.rules.specs.Session.{view};
+ghost use Rattle.rules.specs.Session.{placed, view};
 ghost use Rattle.rules.specs.Effect.{quiet};
 ghost use Rattle.rules.specs.Key.{classAllows};
 ghost use Rattle.command.specs.Frame.{seen};
@@ -16,7 +16,6 @@ use crate::cursor::next_open_place;
 use crate::cursor::start_of_line;
 use command::frame::cursor_cell;
 use command::frame::cursor_guarded;
-use command::frame::moved;
 use rules::Frame;
 use screen::attribute::attribute_at;
 use screen::cell::Place;
@@ -36,10 +35,10 @@ pub enum Fate {
     RefusedByClass,
 }
 
-// A character's fate, and the frame after it.
+// A character's fate, and the cursor after it.
 pub struct Writing {
     pub fate: Fate,
-    pub frame: Frame,
+    pub cursor: Place,
 }
 
 // Class is tested for the operator alone, and not while suppressed.
@@ -95,15 +94,15 @@ pub(crate) fn write(frame: Frame, attrs: &[u8], writer: Writer, byte: u8) -> Wri
 {
     let fate = judge_character(frame, attrs, writer, byte);
     let Fate::Written = fate else {
+        let cursor = frame.cursor;
         return Writing {
             fate: fate,
-            frame: frame,
+            cursor: cursor,
         };
     };
-    let next = place_after(frame, attrs, writer);
     Writing {
         fate: fate,
-        frame: moved(frame, next),
+        cursor: place_after(frame, attrs, writer),
     }
 }
 
@@ -114,14 +113,14 @@ pub fn write_host(frame: Frame, attrs: &[u8], byte: u8) -> Writing
     write(frame, attrs, Writer::Host, byte)
 }
 
-// Host data that is no character: CR, LF and BS move the cursor, any other byte does nothing.
-pub fn control(frame: Frame, byte: u8) -> Frame
-    ensures { λ r. ⌜ ((attrs : List ℕ) → controlOf (view frame attrs) byte ≡ quiet (view r attrs)) ⌝ }
+// Host data that is no character: CR, LF and BS move the cursor, any other byte does nothing. The cursor after it.
+pub fn control(frame: Frame, byte: u8) -> Place
+    ensures { λ r. ⌜ ((attrs : List ℕ) → controlOf (view frame attrs) byte ≡ quiet (view (placed frame r) attrs)) ⌝ }
 {
     match byte {
-        13 => moved(frame, start_of_line(frame)),
-        10 => moved(frame, down(frame)),
-        8 => moved(frame, left(frame)),
-        _ => frame,
+        13 => start_of_line(frame),
+        10 => down(frame),
+        8 => left(frame),
+        _ => frame.cursor,
     }
 }

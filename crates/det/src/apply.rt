@@ -9,6 +9,7 @@ ghost use Rattle.reply.specs.Written.{Wrote};
 ghost use Rattle.reply.specs.inner.Reply.{Sayable};
 ghost use Rattle.text.specs.Text.{Changes};
 ghost use Rattle.det.specs.inner.Apply.{Applies};
+use command::frame::moved;
 use decide::decision::Decision;
 use decide::decision::Edit;
 use decide::decision::Format;
@@ -48,13 +49,14 @@ fn repeat(frame: Frame, count: u8, byte: u8, chars: &mut [u8], attrs: &[u8]) -> 
     ensures { λ r. ⌜ Changes (edited (seen frame (attrs .entry)) (Edit.Repeat count byte))
         (lent (chars .entry) (attrs .entry)) r (now (chars .exit)) ⌝ }
 {
-    let mut now = frame;
+    let mut cursor = frame.cursor;
     let mut left = count;
     while 0 < left {
-        now = put_character(now, byte, chars, attrs);
+        let now = moved(frame, cursor);
+        cursor = put_character(now, byte, chars, attrs);
         left -= 1;
     }
-    now
+    moved(frame, cursor)
 }
 
 // The frame afterwards: REPEAT moves the cursor as it writes.

@@ -6,6 +6,7 @@ ghost use Rattle.rules.specs.Session.{lineTakesKeys};
 ghost use Rattle.command.specs.Frame.{lent, seen};
 ghost use Rattle.text.specs.Text.{Changes};
 ghost use Rattle.det.specs.inner.Data.{dataEffect, DataDone};
+use command::frame::moved;
 use rules::Frame;
 use text::data::host_text;
 use text::data::take_data;
@@ -54,7 +55,8 @@ pub(crate) fn obey_data(
     if passed {
         return frame;
     }
-    take_data(frame, byte, chars, attrs)
+    let cursor = take_data(frame, byte, chars, attrs);
+    moved(frame, cursor)
 }
 
 // The frame after some data, and whether it ended in a CR.

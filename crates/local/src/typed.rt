@@ -9,6 +9,7 @@ ghost use Rattle.text.specs.Text.{Changes};
 ghost use Rattle.pad.specs.Line.{textOf};
 ghost use Rattle.typing.specs.Echo.{bytesOf};
 use crate::told::with_line;
+use command::frame::moved;
 use pad::line::EditLine;
 use rules::Frame;
 use rules::Pad;
@@ -54,14 +55,15 @@ fn write_echo(frame: Frame, echo: Echo, line: EditLine, chars: &mut [u8], attrs:
         (lent (chars .entry) (attrs .entry)) r (now (chars .exit)) ⌝ }
 {
     let count = echo_length(echo, line);
-    let mut now = frame;
+    let mut cursor = frame.cursor;
     let mut i = 0;
     while i < count {
         let next = echo_at(echo, line, i);
-        now = take_data(now, next, chars, attrs);
+        let now = moved(frame, cursor);
+        cursor = take_data(now, next, chars, attrs);
         i += 1;
     }
-    now
+    moved(frame, cursor)
 }
 
 // What is echoed at a key, written as host text: the frame after it.

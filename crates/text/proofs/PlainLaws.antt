@@ -10,6 +10,7 @@ use lib.Dec.{leb, eqb}
 use lib.ListN.{length, getD, set, drop, length-drop}
 use lib.Seq.{paste, paste-zero, paste-suc, getD-drop, set-set}
 use Rattle.screen.specs.Attributes.{protection, protectedAt, guardedAt}
+use Rattle.screen.specs.declared.cell.Place.{Place}
 use Rattle.screen.specs.Cells.{place, cellOf}
 use Rattle.edit.specs.Edits.{lies, Copied}
 use Rattle.words.proofs.Laws.{true-or-false, less-or-not, both, getD-within}
@@ -135,7 +136,8 @@ module _ (bytes : List ℕ) (f₀ : Frame) {chars₀ attrs : List ℕ} (at : ℕ
 
     -- all of them, by one copy
     copied : (n ≡ 0 → ⊥) → {c : ℕ} → c ≡ cellOf (f .width) (f .cursor) → {chars′ : List ℕ} {next : ℕ}
-        → Copied bytes chars at (at + n) c chars′ next → {g : Frame} → g ≡ after f n → Texted attrs bytes f₀ chars₀ (at + n) g chars′
+        → Copied bytes chars at (at + n) c chars′ next → {p : Place} → p ≡ place (f .cursor .x .0 + n) (f .cursor .y .0)
+        → Texted attrs bytes f₀ chars₀ (at + n) (placed f p) chars′
     copied z {c} q d e =
         let long : at + n - at ≡ n = omega arith in
         let inside = both (leb at (at + n)) (leb (at + n) (length bytes)) (le-leb at (at + n) (omega arith))
@@ -180,8 +182,8 @@ module _ {attrs bytes : List ℕ} {from at : ℕ} {g : Frame} {gs : List ℕ} {f
       rw (b, c) at (each-after p (at - from))
 
   pub step-copied : {n : ℕ} → OpenRun f attrs (length chars) (end - at) n → (n ≡ 0 → ⊥) → {c : ℕ} → c ≡ cellOf (f .width) (f .cursor)
-      → {chars′ : List ℕ} {next : ℕ} → Copied bytes chars at (at + n) c chars′ next → {f′ : Frame} → f′ ≡ after f n
-      → TextStep attrs bytes from g gs (at + n) f′ chars′
+      → {chars′ : List ℕ} {next : ℕ} → Copied bytes chars at (at + n) c chars′ next → {p : Place}
+      → p ≡ place (f .cursor .x .0 + n) (f .cursor .y .0) → TextStep attrs bytes from g gs (at + n) (placed f p) chars′
   step-copied r z q d e = record { on = λ f₀ chars₀ t. copied bytes f₀ at (s .on f₀ chars₀ t) r rest (omega arith) z q d e }
 
   pub step-last : {next : ℕ} → LastCounts (view f attrs) at end next → {f′ : Frame} {chars′ : List ℕ}

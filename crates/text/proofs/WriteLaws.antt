@@ -7,7 +7,7 @@ use lib.ListN.{set}
 use types.Run.{OneOf}
 use denote.Enum.Declared.{tagOf}
 use Rattle.rules.specs.declared.Frame.{Frame}
-use Rattle.rules.specs.Session.{View, printable, screen, view, cursorCell, withCursor}
+use Rattle.rules.specs.Session.{View, printable, placed, screen, view, cursorCell, withCursor}
 use Rattle.rules.specs.Effect.{put, changed, changedAll, changing, quiet}
 use Rattle.rules.specs.Telnet.{hostCharacter, hostData}
 use Rattle.decide.specs.declared.text.Writer.the-variants.{Host}
@@ -32,9 +32,9 @@ module _ {v : View} {c : ℕ} {w : Writing} (one : Writes v Host c w) where
 
   -- written, it stands in the cursor's cell
   pub written : {cell : ℕ} {chars chars′ : List ℕ} → w .fate ≡ Written → cell ≡ cursorCell v → chars′ ≡ set chars cell c
-      → Changes (hostCharacter v c) (screen chars (v .attrs)) (w .frame) chars′
+      → Changes (hostCharacter v c) (screen chars (v .attrs)) (placed (v .frame) (w .cursor)) chars′
   unfolding ifWritten afterFate changed changedAll
-  written e p q = rw (host-by-fate, one .frame, e) (record { frame = refl; characters = q ∙ rw p })
+  written e p q = rw (host-by-fate, one .cursor, e) (record { frame = refl; characters = q ∙ rw p })
 
 -- host data that is no character moves the cursor at most
 pub unprinted : (v : View) {f : Frame} {chars : List ℕ} (b : ℕ) → printable b ≡ false → controlOf v b ≡ quiet (view f (v .attrs))

@@ -1,4 +1,5 @@
-// Host data: characters are written into their cells, and the cursor moves.
+// Host data: characters are written into their cells, and the cursor moves. It changes nothing else of a frame: the functions that take it
+// in return the cursor, so that their cost is not the frame's size.
 ghost use mathlib.Core.Path.{_≡_};
 ghost use Prim.Native.Nat.{_+_, _-_, _≤_, _<_};
 ghost use lib.ListN.{length, set};
@@ -33,22 +34,24 @@ pub fn set_cell(chars: &mut [u8], cell: usize, byte: u8)
     }
 }
 
-// One character from the host: the frame after it.
-pub fn put_character(frame: Frame, byte: u8, chars: &mut [u8], attrs: &[u8]) -> Frame
-    ensures { λ r. ⌜ Changes (hostCharacter (seen frame (attrs .entry)) byte) (lent (chars .entry) (attrs .entry)) r (now (chars .exit)) ⌝ }
+// One character from the host: the cursor after it.
+pub fn put_character(frame: Frame, byte: u8, chars: &mut [u8], attrs: &[u8]) -> Place
+    ensures { λ r. ⌜ Changes (hostCharacter (seen frame (attrs .entry)) byte)
+        (lent (chars .entry) (attrs .entry)) (placed frame r) (now (chars .exit)) ⌝ }
 {
     let writing = write_host(frame, attrs, byte);
     let fate = writing.fate;
     let Fate::Written = fate else {
-        return frame;
+        return frame.cursor;
     };
     set_cell(chars, cursor_cell(frame), byte);
-    writing.frame
+    writing.cursor
 }
 
-// One byte of host data: the frame after it.
-pub fn take_data(frame: Frame, byte: u8, chars: &mut [u8], attrs: &[u8]) -> Frame
-    ensures { λ r. ⌜ Changes (hostData (seen frame (attrs .entry)) byte) (lent (chars .entry) (attrs .entry)) r (now (chars .exit)) ⌝ }
+// One byte of host data: the cursor after it.
+pub fn take_data(frame: Frame, byte: u8, chars: &mut [u8], attrs: &[u8]) -> Place
+    ensures { λ r. ⌜ Changes (hostData (seen frame (attrs .entry)) byte)
+        (lent (chars .entry) (attrs .entry)) (placed frame r) (now (chars .exit)) ⌝ }
 {
     let text = is_printable(byte);
     if text {
@@ -58,21 +61,18 @@ pub fn take_data(frame: Frame, byte: u8, chars: &mut [u8], attrs: &[u8]) -> Fram
 }
 
 // The cursor so many cells further on its line.
-fn gone_right(frame: Frame, count: usize) -> Frame
+fn gone_right(frame: Frame, count: usize) -> Place
     requires { ⌜ frame .cursor .x .0 + count < frame .width ⌝ }
-    ensures { λ r. ⌜ r ≡ placed frame (place (frame .cursor .x .0 + count) (frame .cursor .y .0)) ⌝ }
+    ensures { λ r. ⌜ r ≡ place (frame .cursor .x .0 + count) (frame .cursor .y .0) ⌝ }
 {
     let y = frame.cursor.y;
-    moved(
-        frame,
-        Place {
-            x: Column(frame.cursor.x.0 + count as u8),
-            y: y,
-        },
-    )
+    Place {
+        x: Column(frame.cursor.x.0 + count as u8),
+        y: y,
+    }
 }
 
-// Characters that stand in a row: the frame after them. As many as can go into their cells by one copy.
+// Characters that stand in a row: the cursor after them. As many as can go into their cells by one copy.
 fn put_text(
     frame: Frame,
     bytes: &[u8],
@@ -80,25 +80,26 @@ fn put_text(
     end: usize,
     chars: &mut [u8],
     attrs: &[u8],
-) -> Frame
+) -> Place
     requires { ⌜ (from ≤ end) × (end ≤ length (now bytes)) × Each printable (now bytes) from (end - from) ⌝ }
-    ensures { λ r. ⌜ TextStep (now (attrs .entry)) (now (bytes .entry)) from frame (now (chars .entry)) end r (now (chars .exit)) ⌝ }
+    ensures { λ r. ⌜ TextStep (now (attrs .entry)) (now (bytes .entry)) from frame (now (chars .entry)) end (placed frame r) (now (chars .exit)) ⌝ }
 {
-    let mut now = frame;
+    let mut cursor = frame.cursor;
     let mut at = from;
     while at < end {
+        let now = moved(frame, cursor);
         let count = open_run(now, attrs, chars.len(), end - at);
         if count == 0 {
             let next = last_counts(now, attrs, at, end);
-            now = put_character(now, bytes[next - 1], chars, attrs);
+            cursor = put_character(now, bytes[next - 1], chars, attrs);
             at = next;
             continue;
         }
         copy_text(bytes, chars, at, at + count, cursor_cell(now));
-        now = gone_right(now, count);
+        cursor = gone_right(now, count);
         at += count;
     }
-    now
+    cursor
 }
 
 // Data: the frame after it. It does what its bytes do one after the other. One character alone is not worth a copy.
@@ -106,25 +107,26 @@ pub fn host_text(frame: Frame, bytes: &[u8], chars: &mut [u8], attrs: &[u8]) -> 
     ensures { λ r. ⌜ Changes (hostText (seen frame (attrs .entry)) (now (bytes .entry)))
         (lent (chars .entry) (attrs .entry)) r (now (chars .exit)) ⌝ }
 {
-    let mut now = frame;
+    let mut cursor = frame.cursor;
     let mut at = 0;
     while at < bytes.len() {
         let byte = bytes[at];
+        let now = moved(frame, cursor);
         let text = is_printable(byte);
         if !text {
-            now = control(now, byte);
+            cursor = control(now, byte);
             at += 1;
             continue;
         }
         let more = character_at(bytes, at + 1);
         if !more {
-            now = put_character(now, byte, chars, attrs);
+            cursor = put_character(now, byte, chars, attrs);
             at += 1;
             continue;
         }
         let end = at + 2 + count_characters(bytes, at + 2);
-        now = put_text(now, bytes, at, end, chars, attrs);
+        cursor = put_text(now, bytes, at, end, chars, attrs);
         at = end;
     }
-    now
+    moved(frame, cursor)
 }

@@ -6,6 +6,7 @@ ghost use Rattle.rules.specs.Telnet.{hostText};
 ghost use Rattle.command.specs.Frame.{lent, seen};
 ghost use Rattle.text.specs.Text.{Changes, joined, endsInCr};
 use crate::data::take_data;
+use command::frame::moved;
 use rules::Frame;
 
 // Is an LF right after a CR?
@@ -23,7 +24,7 @@ pub fn joined_text(frame: Frame, cr: bool, bytes: &[u8], chars: &mut [u8], attrs
     ensures { λ r. ⌜ Changes (hostText (seen frame (attrs .entry)) (joined cr (now (bytes .entry))))
         (lent (chars .entry) (attrs .entry)) r (now (chars .exit)) ⌝ }
 {
-    let mut now = frame;
+    let mut cursor = frame.cursor;
     let mut last = cr;
     let mut at = 0;
     while at < bytes.len() {
@@ -34,9 +35,10 @@ pub fn joined_text(frame: Frame, cr: bool, bytes: &[u8], chars: &mut [u8], attrs
         if passed {
             continue;
         }
-        now = take_data(now, byte, chars, attrs);
+        let now = moved(frame, cursor);
+        cursor = take_data(now, byte, chars, attrs);
     }
-    now
+    moved(frame, cursor)
 }
 
 // Is the last byte a CR? Where there is none, as before.

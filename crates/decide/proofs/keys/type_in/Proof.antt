@@ -14,4 +14,8 @@ type-in-spec =
     (λ c κs. search needs)
     (λ c κs. search needs)
     (λ c κs. search needs)
-    (λ c. decides (c .editing .ensures) tt (rw (typed (c .before .before .write .ensures) (c .before .before .before .before .pre .1), c .before .cursor-cell .ensures))))
+    (λ c κs. search needs)
+    (λ c. let m = c .before in
+    let w = m .before .before .before in
+    decides (c .editing .ensures) tt
+    (rw (m .moved .ensures, typed (w .write .ensures) (w .before .before .pre .1), m .before .cursor-cell .ensures))))

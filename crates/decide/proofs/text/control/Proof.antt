@@ -11,24 +11,23 @@ use Rattle.decide.proofs.text.control.Tie as tie
 
 cr : tie.Need-returns
 unfolding controlOf hostData destination
-cr c = λ attrs. rw (c .before .before .match .keys1, c .moved .ensures, c .before .start-of-line .ensures)
+cr c = λ attrs. rw (c .before .match .keys1, c .start-of-line .ensures)
 
 lf : tie.Need-returns-2
 unfolding controlOf hostData destination
-lf c = λ attrs. rw (c .before .before .match .keys2, c .moved2 .ensures, c .before .down .ensures)
+lf c = λ attrs. rw (c .before .match .keys2, c .down .ensures)
 
 bs : tie.Need-returns-3
 unfolding controlOf hostData destination
-bs c = λ attrs. rw (c .before .before .match .keys3, c .moved3 .ensures, c .before .left .ensures)
+bs c = λ attrs. rw (c .before .match .keys3, c .left .ensures)
 
 others : tie.Need-returns-4
 unfolding controlOf hostData destination
-others c = λ attrs. let r = c .match .rest in
-    true-or-false (printable (c .before .args .byte)) (λ e. rw e) (λ e. rw (e, ne-eqb _ _ (r .1), ne-eqb _ _ (r .0 .1), ne-eqb _ _ (r .0 .0 .1)))
+others c = λ attrs. let r = c .before .match .rest in
+    true-or-false (printable (c .before .before .args .byte)) (λ e. rw e) (λ e. rw (e, ne-eqb _ _ (r .1), ne-eqb _ _ (r .0 .1), ne-eqb _ _ (r .0 .0 .1)))
 
 pub control-spec : {M : Type 1} → statement M
 control-spec =
     tie.close
     (tie.spec
-    (λ c κs. search needs) (λ c κs. search needs) (λ c κs. search needs) (λ c κs. search needs) (λ c κs. search needs)
-    (λ c κs. search needs) cr lf bs others)
+    (λ c κs. search needs) (λ c κs. search needs) (λ c κs. search needs) cr lf bs others)

@@ -13,8 +13,8 @@ write-spec =
     (tie.spec
     (λ c κs. search needs)
     (λ c. search needs)
-    (λ c. record { fate = c .before .judge-character .ensures; frame = not-moved (c .before .judge-character .result) (c .match .keys2) (c .before .before .before .args .frame) _ })
+    (λ c. let m = c .before in
+    record { fate = m .before .judge-character .ensures; cursor = not-moved (m .before .judge-character .result) (m .match .keys2) _ _ })
     (λ c κs. search needs)
-    (λ c κs. search needs)
-    (λ c. let w = c .before .before in
-    record { fate = w .before .before .judge-character .ensures; frame = c .moved .ensures ∙ rw (w .enum-told .given .1, c .before .place-after .ensures) }))
+    (λ c. let w = c .before in
+    record { fate = w .before .before .judge-character .ensures; cursor = c .place-after .ensures ∙ rw (w .enum-told .given .1) }))

@@ -9,7 +9,7 @@ put-character-spec =
     tie.close
     (tie.spec
     (λ c κs. search needs) (λ c. search needs)
-    (λ c. unwritten (c .before .write-host .ensures) (c .match .keys2))
+    (λ c. let m = c .before in unwritten (m .before .write-host .ensures) (m .match .keys2))
     (λ c κs. search needs) (λ c κs. search needs) (λ c. search needs)
     (λ c. let p = c .before .before .before in
     let w = p .before .before .before in

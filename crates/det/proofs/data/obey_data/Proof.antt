@@ -11,7 +11,7 @@ obey-data-spec =
     (tie.spec
     (λ c κs. search needs)
     (λ c. data-passed _ _ _ _ (sym (c .before .is-passed .ensures) ∙ c .if1 .taken))
-    (λ c κs. search needs) (λ c. search needs)
-    (λ c. let d = c .before .before in
+    (λ c κs. search needs) (λ c κs. search needs) (λ c. search needs)
+    (λ c. let d = c .before .before .before in
     let i = d .before .before in
-    data-obeyed _ _ _ _ (sym (i .before .is-passed .ensures) ∙ i .if1 .left) (d .take-data .ensures)))
+    data-obeyed _ _ _ _ (sym (i .before .is-passed .ensures) ∙ i .if1 .left) (rw (c .moved .ensures) (d .take-data .ensures))))

@@ -6,6 +6,7 @@ use lib.ListN.{length}
 use borrow.Author.Needs.{needs}
 use Rattle.pad.specs.Line.{textOf}
 use Rattle.typing.specs.Echo.{bytesOf}
+use Rattle.rules.specs.Session.{placed}
 use Rattle.text.specs.inner.Text.{Texted}
 use Rattle.text.proofs.TextLaws.{texted-none, texted-more, texted-all}
 use Rattle.local.proofs.typed.write_echo.Statement.{statement}
@@ -15,23 +16,25 @@ pub write-echo-spec : {M : Type 1} → statement M
 write-echo-spec =
     tie.close
     (tie.spec
-    (λ echo line chars₀ attrs count now₀ i₀ chars now i.
-    Texted attrs (bytesOf echo (textOf line)) now₀ chars₀ i now chars × (length chars ≡ length chars₀))
-    (λ echo line chars₀ attrs count now₀ i₀ chars now i. count - i)
+    (λ frame echo line chars₀ attrs count cursor₀ i₀ chars cursor i.
+    Texted attrs (bytesOf echo (textOf line)) frame chars₀ i (placed frame cursor) chars × (length chars ≡ length chars₀))
+    (λ frame echo line chars₀ attrs count cursor₀ i₀ chars cursor i. count - i)
     (λ c κs. search needs)
-    (λ c. let a = c .before .before .before .args in (texted-none _ (bytesOf (a .echo) (textOf (a .line))) _ _, refl))
-    (λ c κs. search needs) (λ c κs. search needs) (λ c. search needs) (λ c. search needs)
+    (λ c. let a = c .before .before .before .before .args in (texted-none _ (bytesOf (a .echo) (textOf (a .line))) _ _, refl))
+    (λ c κs. search needs) (λ c κs. search needs) (λ c κs. search needs) (λ c. search needs) (λ c. search needs)
     (λ c. let d = c .before .before in
-    let e = d .before .before in
+    let m = d .before .before in
+    let e = m .before in
     let l = e .before .before in
-    let a = l .before .before .before .before .args in (
+    let a = l .before .before .before .before .before .args in (
       texted-more (bytesOf (a .echo) (textOf (a .line))) _ (l .loop .i) (l .loop .inv .0)
-          (omega (arith, e .before .loop-test .taken, l .before .echo-length .ensures))
-          (rw (e .echo-at .ensures) at (d .take-data .ensures)),
+          (omega (arith, e .before .loop-test .taken, l .before .before .echo-length .ensures))
+          (rw (e .echo-at .ensures, m .moved .ensures) at (d .take-data .ensures)),
       search needs,
     ))
-    (λ c. search needs)
-    (λ c. let l = c .before in
-    let a = l .before .before .before .before .args in
-    texted-all (bytesOf (a .echo) (textOf (a .line))) _ (l .loop .i) (l .loop .inv .0)
-    (omega (arith, c .loop-test .left, l .before .echo-length .ensures))))
+    (λ c κs. search needs) (λ c. search needs)
+    (λ c. let l = c .before .before in
+    let a = l .before .before .before .before .before .args in
+    rw (c .moved2 .ensures)
+    (texted-all (bytesOf (a .echo) (textOf (a .line))) _ (l .loop .i) (l .loop .inv .0)
+    (omega (arith, c .before .loop-test .left, l .before .before .echo-length .ensures)))))

@@ -36,10 +36,9 @@ use Rattle.rules.proofs.Characters.{changed-append}
 use Rattle.rules.proofs.Running.{running-append}
 use Rattle.command.specs.Held.{holdingAll}
 use Rattle.det.specs.declared.take.Turn.{Turn}
-use Rattle.text.specs.Text.{Changes, joined, endsInCr}
-use Rattle.det.specs.inner.Data.{obeyedBytes}
+use Rattle.text.specs.Text.{Changes, joined, obeyedBytes, endsInCr}
 use Rattle.det.specs.inner.Take.{inMessage, QuietRun, QuietTurn, toldOf, Tells}
-use Rattle.text.proofs.TextLaws.{data-only}
+use Rattle.text.proofs.TextLaws.{data-moves, data-only, text-moves}
 
 -- nothing sent, nothing executed
 abbrev still : State → Ran
@@ -53,23 +52,10 @@ standing f phase held cr p b = state (session f (record { phase = phase; held = 
 
 -- host data changes no mode
 data-modes : (v : View) (b : ℕ) → lineTakesKeys ((hostData v b) .view .frame) ≡ lineTakesKeys (v .frame)
-unfolding hostData hostCharacter
-data-modes v b =
-    let M : Effect → Type 0 = λ e. lineTakesKeys (e .view .frame) ≡ lineTakesKeys (v .frame) in
-    either M (printable b) (λ t. either M (cursorGuarded v) (λ g. refl) (λ g. refl))
-    (λ t. either M (eqb b 13) (λ p. refl) (λ p. either M (eqb b 10) (λ q. refl) (λ q. either M (eqb b 8) (λ r. refl) (λ r. refl))))
-
-data-x3 : (v : View) (b : ℕ) → (hostData v b) .view .frame .x3 ≡ v .frame .x3
-unfolding hostData hostCharacter
-data-x3 v b =
-    let M : Effect → Type 0 = λ e. e .view .frame .x3 ≡ v .frame .x3 in
-    either M (printable b) (λ t. either M (cursorGuarded v) (λ g. refl) (λ g. refl))
-    (λ t. either M (eqb b 13) (λ p. refl) (λ p. either M (eqb b 10) (λ q. refl) (λ q. either M (eqb b 8) (λ r. refl) (λ r. refl))))
+data-modes v b = ap (λ (w : View). lineTakesKeys (w .frame)) (data-moves v b)
 
 text-x3 : (v : View) (xs : List ℕ) → (hostText v xs) .view .frame .x3 ≡ v .frame .x3
-unfolding hostText
-text-x3 v [] = refl
-text-x3 v (x ∷ xs) = text-x3 ((hostData v x) .view) xs ∙ data-x3 v x
+text-x3 v xs = ap (λ (w : View). w .frame .x3) (text-moves v xs)
 
 module _ (f : Frame) (held : Held) (cr : Bool) (p : Pad) (b : Screen) where
   -- IAC, at rest and in a subnegotiation

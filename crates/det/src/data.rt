@@ -8,10 +8,9 @@ ghost use Rattle.text.specs.Text.{Changes};
 ghost use Rattle.det.specs.inner.Data.{dataEffect, DataDone};
 use command::frame::moved;
 use rules::Frame;
-use text::data::host_text;
+use text::data::obey_text;
 use text::data::take_data;
 use text::joined::ends_in_cr;
-use text::joined::joined_text;
 
 // Is CR LF printed as CR? `lf`: parameter 13 has it printed as such.
 fn is_joining(frame: Frame, lf: bool) -> bool
@@ -77,15 +76,8 @@ pub(crate) fn take_bytes(
     ensures { λ r. ⌜ DataDone (seen frame (attrs .entry)) lf cr (now (bytes .entry)) (now (chars .entry)) r (now (chars .exit)) ⌝ }
 {
     let ends = ends_in_cr(cr, bytes);
-    let joining = is_joining(frame, lf);
-    if joining {
-        let joined = joined_text(frame, cr, bytes, chars, attrs);
-        return DataTurn {
-            frame: joined,
-            cr: ends,
-        };
-    }
-    let after = host_text(frame, bytes, chars, attrs);
+    let joins = is_joining(frame, lf);
+    let after = obey_text(frame, joins, cr, bytes, chars, attrs);
     DataTurn {
         frame: after,
         cr: ends,

@@ -1,21 +1,18 @@
--- Laws of data in which an LF is passed over: what is done so far is what the bytes so far do.
+-- Laws of data in which an LF is passed over: one byte more, and whether a CR came last.
 use mathlib.Core.Path.{_≡_, refl, sym, ap, _∙_}
 use mathlib.Core.Bool.{Bool, true, false, _&&_}
-use mathlib.Core.List.{List, [], _∷_, _++_, append-nil}
-use Prim.Native.Nat.{ℕ, suc, _+_, _-_, _≤_, _<_}
-use native.Mathlib.Numerals.{add-one}
+use mathlib.Core.List.{List, [], _∷_, _++_}
+use Prim.Native.Nat.{ℕ, suc, _-_, _≤_, _<_}
 use native.Mathlib.Omega.{arith}
+use borrow.Author.Tests.{ne-eqb}
 use lib.Dec.{eqb}
 use lib.ListN.{length, getD, take}
 use lib.Seq.{take-suc, take-all}
 use Rattle.words.specs.Words.{if_then_else_}
-use Rattle.words.proofs.Laws.{either, true-or-false}
-use Rattle.rules.specs.declared.Frame.{Frame}
-use Rattle.rules.specs.Session.{screen, view}
-use Rattle.rules.specs.Effect.{changedAll}
-use Rattle.rules.specs.Telnet.{hostData, hostText}
-use Rattle.text.specs.Text.{Changes, joined, endsInCr}
-use Rattle.text.proofs.TextLaws.{text-more}
+use Rattle.words.proofs.Laws.{true-or-false, not-both}
+use Rattle.rules.specs.Session.{printable}
+use Rattle.text.specs.Text.{joined, obeyedBytes, endsInCr}
+use Rattle.text.specs.inner.Text.{passedAt}
 
 -- one byte after the others
 ends-next : (cr : Bool) (xs : List ℕ) (b : ℕ) → endsInCr cr (xs ++ (b ∷ [])) ≡ eqb b 13
@@ -31,51 +28,34 @@ joined-next cr (x ∷ xs) b =
     true-or-false (cr && eqb x 10) (λ t. rw t (joined-next (eqb x 13) xs b))
     (λ f. rw f (ap (λ l. x ∷ l) (joined-next (eqb x 13) xs b)))
 
--- the first `at` bytes are done
-pub record Joining (attrs bytes : List ℕ) (cr : Bool) (f₀ : Frame) (chars₀ : List ℕ) (at : ℕ) (last : Bool) (f : Frame) (chars : List ℕ) : Type 0 where
-  pub done : Changes (hostText (view f₀ attrs) (joined cr (take at bytes))) (screen chars₀ attrs) f chars
-  pub ends : last ≡ endsInCr cr (take at bytes)
+pub obeyed-next : (joins cr : Bool) (xs : List ℕ) (b : ℕ) → obeyedBytes joins cr (xs ++ (b ∷ []))
+    ≡ obeyedBytes joins cr xs ++ (if (joins && endsInCr cr xs) && eqb b 10 then [] else b ∷ [])
+obeyed-next true cr xs b = joined-next cr xs b
+obeyed-next false cr xs b = refl
 
-pub joining-none : {attrs bytes : List ℕ} {cr : Bool} {f : Frame} {chars : List ℕ} → Joining attrs bytes cr f chars 0 cr f chars
-unfolding joined endsInCr hostText changedAll
-joining-none = record { done = record { frame = refl; characters = refl }; ends = refl }
+pub obeyed-none : (joins cr : Bool) → obeyedBytes joins cr [] ≡ []
+unfolding joined
+obeyed-none true cr = refl
+obeyed-none false cr = refl
 
-module _ {attrs bytes : List ℕ} {cr : Bool} {f₀ : Frame} {chars₀ : List ℕ} {at : ℕ} {last : Bool} {f : Frame} {chars : List ℕ}
-    (k : Joining attrs bytes cr f₀ chars₀ at last f chars) where
-  -- the next is passed over
-  pub joining-passed : at < length bytes → (last && eqb (getD bytes at 0) 10) ≡ true
-      → Joining attrs bytes cr f₀ chars₀ (at + 1) (eqb (getD bytes at 0) 13) f chars
-  joining-passed h p =
-      let b = getD bytes at 0 in
-      let q = rw (k .ends) at p in
-      record {
-        done = rw (add-one, take-suc bytes at 0 h, joined-next, q, append-nil) (k .done);
-        ends = rw (add-one, take-suc bytes at 0 h, ends-next);
-      }
+-- only an LF is passed over
+pub not-passed : (joins cr : Bool) (bytes : List ℕ) (at : ℕ) → eqb (getD bytes at 0) 10 ≡ false → passedAt joins cr bytes at ≡ false
+not-passed joins cr bytes at e = rw e (true-or-false (joins && endsInCr cr (take at bytes)) (λ t. rw t) (λ t. rw t))
 
-  -- or it is obeyed
-  pub joining-more : at < length bytes → (last && eqb (getD bytes at 0) 10) ≡ false → {f′ : Frame} {chars′ : List ℕ}
-      → Changes (hostData (view f attrs) (getD bytes at 0)) (screen chars attrs) f′ chars′
-      → Joining attrs bytes cr f₀ chars₀ (at + 1) (eqb (getD bytes at 0) 13) f′ chars′
-  joining-more h p one =
-      let q = rw (k .ends) at p in
-      record {
-        done = rw (add-one, take-suc bytes at 0 h, joined-next, q) (text-more (joined cr (take at bytes)) f₀ (k .done) (getD bytes at 0) one);
-        ends = rw (add-one, take-suc bytes at 0 h, ends-next);
-      }
+pub printed-no-lf : (b : ℕ) → printable b ≡ true → eqb b 10 ≡ false
+printed-no-lf b p = ne-eqb b 10 (λ e. not-both (printable 10) (rw e at p) refl)
 
-  pub joining-all : length bytes ≤ at → Changes (hostText (view f₀ attrs) (joined cr bytes)) (screen chars₀ attrs) f chars
-  joining-all h = rw (take-all at bytes h) at (k .done)
+-- ---- whether a CR came last
 
--- ---- the last byte
-
-pub ends-none : (cr : Bool) (xs : List ℕ) → length xs ≡ 0 → cr ≡ endsInCr cr xs
+pub ends-none : (cr : Bool) (xs : List ℕ) (at : ℕ) → at ≡ 0 → cr ≡ endsInCr cr (take at xs)
 unfolding endsInCr
-ends-none cr [] h = refl
-ends-none cr (x ∷ xs) h = absurd (omega arith)
+ends-none cr xs at e = rw e
 
-pub ends-last : (cr : Bool) (xs : List ℕ) → 0 < length xs → eqb (getD xs (length xs - 1) 0) 13 ≡ endsInCr cr xs
-ends-last cr xs h =
-    let n = length xs - 1 in
-    let whole : take n xs ++ (getD xs n 0 ∷ []) ≡ xs = sym (take-suc xs n 0 (omega arith)) ∙ take-all (suc n) xs (omega arith) in
-    sym (ends-next cr (take n xs) (getD xs n 0)) ∙ ap (endsInCr cr) whole
+pub ends-last : (cr : Bool) (xs : List ℕ) (at : ℕ) → 0 < at → at ≤ length xs → eqb (getD xs (at - 1) 0) 13 ≡ endsInCr cr (take at xs)
+ends-last cr xs at h l =
+    let n = at - 1 in
+    let e : at ≡ suc n = omega arith in
+    sym (ends-next cr (take n xs) (getD xs n 0)) ∙ ap (endsInCr cr) (sym (take-suc xs n 0 (omega arith)) ∙ ap (λ k. take k xs) (sym e))
+
+pub ends-all : (cr : Bool) (xs : List ℕ) → endsInCr cr (take (length xs) xs) ≡ endsInCr cr xs
+ends-all cr xs = rw (take-all (length xs) xs (omega arith))

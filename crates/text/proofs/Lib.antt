@@ -1,4 +1,4 @@
 pub mod WriteLaws
+pub mod JoinedLaws
 pub mod TextLaws
 pub mod PlainLaws
-pub mod JoinedLaws

@@ -19,11 +19,11 @@ use Rattle.rules.specs.declared.Frame.{Frame}
 use Rattle.rules.specs.Session.{View, printable, placed, screen, view}
 use Rattle.rules.specs.Cursor.{cursorGuarded, destination, nextCell}
 use Rattle.rules.specs.Effect.{Effect, changed, changedAll}
-use Rattle.rules.specs.Telnet.{hostCharacter, hostData}
+use Rattle.rules.specs.Telnet.{hostCharacter}
 use Rattle.text.specs.Text.{Changes}
 use Rattle.text.specs.inner.Text.{Texted, TextStep}
 use Rattle.text.specs.inner.Plain.{unguarded, Each, OpenRun, LastCounts}
-use Rattle.text.proofs.TextLaws.{texted-more}
+use Rattle.text.proofs.TextLaws.{texted-character}
 
 -- ---- bytes that pass a test
 
@@ -72,17 +72,13 @@ free-each suppressed {attrs} {cell} {n} {k} p l h =
 
 -- ---- one character
 
-pub printed : (v : View) (b : ℕ) → printable b ≡ true → hostData v b ≡ hostCharacter v b
-unfolding hostData
-printed v b p = rw p
-
 -- on a cell that is not guarded and not its line's last
-character : (f : Frame) {attrs chars : List ℕ} (b : ℕ) → printable b ≡ true
+character : (f : Frame) {attrs chars : List ℕ} (b : ℕ)
     → guardedAt (f .suppressed) attrs (cellOf (f .width) (f .cursor)) ≡ false → f .cursor .x .0 + 1 < f .width
-    → Changes (hostData (view f attrs) b) (screen chars attrs) (placed f (place (f .cursor .x .0 + 1) (f .cursor .y .0)))
+    → Changes (hostCharacter (view f attrs) b) (screen chars attrs) (placed f (place (f .cursor .x .0 + 1) (f .cursor .y .0)))
     (set chars (cellOf (f .width) (f .cursor)) b)
-unfolding hostData hostCharacter destination nextCell changed changedAll
-character f b p g l = rw (p, g, lt-ltb _ _ l) (record { frame = refl; characters = refl })
+unfolding hostCharacter destination nextCell changed changedAll
+character f b g l = rw (g, lt-ltb _ _ l) (record { frame = refl; characters = refl })
 
 -- where the cursor stays: on a guarded cell, and at the last
 pub stays-guarded : (v : View) → cursorGuarded v ≡ true → (b : ℕ) → (hostCharacter v b) .view ≡ v
@@ -110,12 +106,12 @@ overwritten v chars attrs a b = true-or-false (cursorGuarded v) (λ g. rw g) (λ
 abbrev after : Frame → ℕ → Frame
 after f k = placed f (place (f .cursor .x .0 + k) (f .cursor .y .0))
 
-module _ (bytes : List ℕ) (f₀ : Frame) {chars₀ attrs : List ℕ} (at : ℕ) {f : Frame} {chars : List ℕ}
-    (t : Texted attrs bytes f₀ chars₀ at f chars) where
+module _ {joins cr : Bool} {bytes : List ℕ} {f₀ : Frame} {chars₀ attrs : List ℕ} {at : ℕ} {f : Frame} {chars : List ℕ}
+    (t : Texted attrs joins cr bytes f₀ chars₀ at f chars) where
   module _ {most n : ℕ} (r : OpenRun f attrs (length chars) most n) (p : Each printable bytes at most) (w : at + most ≤ length bytes) where
     -- the first of them
     first : (k : ℕ) → k ≤ n → {chars′ : List ℕ} → chars′ ≡ paste chars (cellOf (f .width) (f .cursor)) (drop at bytes) k
-        → Texted attrs bytes f₀ chars₀ (at + k) (after f k) chars′
+        → Texted attrs joins cr bytes f₀ chars₀ (at + k) (after f k) chars′
     first zero h {chars′} e =
         let q : chars′ ≡ chars = e ∙ sym (paste-zero chars (cellOf (f .width) (f .cursor)) (drop at bytes)) in
         let a : at + 0 ≡ at = omega arith in
@@ -125,19 +121,19 @@ module _ (bytes : List ℕ) (f₀ : Frame) {chars₀ attrs : List ℕ} (at : ℕ
         let cell = cellOf (f .width) (f .cursor) in
         let before = first k (omega arith) refl in
         let here : cellOf (f .width) ((after f k) .cursor) ≡ cell + k = omega arith in
-        let stored = paste-suc chars cell (drop at bytes) k 0 (omega (arith, r .characters)) (omega (arith, length-drop at bytes, r .few)) in
+        let stored = paste-suc chars cell (drop at bytes) k 0 (omega (arith, r .characters))
+        (omega (arith, length-drop at bytes, r .few)) in
         let a : at + suc k ≡ at + k + 1 = omega arith in
         let b : f .cursor .x .0 + suc k ≡ f .cursor .x .0 + k + 1 = omega arith in
         let now : chars′ ≡ set (paste chars cell (drop at bytes) k) (cellOf (f .width) ((after f k) .cursor)) (getD bytes (at + k) 0) =
         e ∙ rw (here, ← getD-drop at bytes k 0) (sym stored) in
-        rw (a, b, now) (texted-more bytes f₀ (at + k) before (omega (arith, r .few))
-        (character (after f k) (getD bytes (at + k) 0) (p .each k (omega (arith, r .few))) (rw here (r .free k (omega arith)))
-        (omega (arith, r .line))))
+        rw (a, b, now) (texted-character before (omega (arith, r .few)) (p .each k (omega (arith, r .few)))
+        (character (after f k) (getD bytes (at + k) 0) (rw here (r .free k (omega arith))) (omega (arith, r .line))))
 
     -- all of them, by one copy
     copied : (n ≡ 0 → ⊥) → {c : ℕ} → c ≡ cellOf (f .width) (f .cursor) → {chars′ : List ℕ} {next : ℕ}
         → Copied bytes chars at (at + n) c chars′ next → {p : Place} → p ≡ place (f .cursor .x .0 + n) (f .cursor .y .0)
-        → Texted attrs bytes f₀ chars₀ (at + n) (placed f p) chars′
+        → Texted attrs joins cr bytes f₀ chars₀ (at + n) (placed f p) chars′
     copied z {c} q d e =
         let long : at + n - at ≡ n = omega arith in
         let inside = both (leb at (at + n)) (leb (at + n) (length bytes)) (le-leb at (at + n) (omega arith))
@@ -150,12 +146,12 @@ module _ (bytes : List ℕ) (f₀ : Frame) {chars₀ attrs : List ℕ} (at : ℕ
   last : (k : ℕ) → Each printable bytes at (suc k) → at + suc k ≤ length bytes
       → (0 < k → (b : ℕ) → (hostCharacter (view f attrs) b) .view ≡ view f attrs) → {f′ : Frame} {chars′ : List ℕ}
       → Changes (hostCharacter (view f attrs) (getD bytes (at + k) 0)) (screen chars attrs) f′ chars′
-      → Texted attrs bytes f₀ chars₀ (at + suc k) f′ chars′
+      → Texted attrs joins cr bytes f₀ chars₀ (at + suc k) f′ chars′
   last zero p w s d =
       let a : at + 1 ≡ at + 0 + 1 = omega arith in
       let b : at + 0 ≡ at = omega arith in
-      let here : Texted attrs bytes f₀ chars₀ (at + 0) f chars = rw b t in
-      rw a (texted-more bytes f₀ (at + 0) here (omega arith) (rw (printed (view f attrs) (getD bytes (at + 0) 0) (p .each 0 (omega arith))) d))
+      let here : Texted attrs joins cr bytes f₀ chars₀ (at + 0) f chars = rw b t in
+      rw a (texted-character here (omega arith) (p .each 0 (omega arith)) d)
   last (suc k) p w s d =
       let v = view f attrs in
       let stays = s (omega arith) in
@@ -164,13 +160,13 @@ module _ (bytes : List ℕ) (f₀ : Frame) {chars₀ attrs : List ℕ} (at : ℕ
       let before = last k (record { each = λ i h. p .each i (omega arith) }) (omega arith) (λ h. stays)
       (record { frame = ap (λ (w : View). w .frame) (sym (stays one)); characters = refl }) in
       let a : at + suc (suc k) ≡ at + suc k + 1 = omega arith in
-      rw a (texted-more bytes f₀ (at + suc k) before (omega arith) (rw (printed v two (p .each (suc k) (omega arith)))
-      (record { frame = d .frame; characters = d .characters ∙ sym (overwritten v chars attrs one two) })))
+      rw a (texted-character before (omega arith) (p .each (suc k) (omega arith))
+      (record { frame = d .frame; characters = d .characters ∙ sym (overwritten v chars attrs one two) }))
 
 -- ---- steps
 
 pub step-none : {attrs bytes : List ℕ} {from : ℕ} {f : Frame} {chars : List ℕ} → TextStep attrs bytes from f chars from f chars
-step-none = record { on = λ f₀ chars₀ t. t }
+step-none = record { on = λ joins cr f₀ chars₀ t. t }
 
 module _ {attrs bytes : List ℕ} {from at : ℕ} {g : Frame} {gs : List ℕ} {f : Frame} {chars : List ℕ}
     (s : TextStep attrs bytes from g gs at f chars) {end : ℕ} (p : Each printable bytes from (end - from)) (a : from ≤ at) (h : at < end)
@@ -184,7 +180,7 @@ module _ {attrs bytes : List ℕ} {from at : ℕ} {g : Frame} {gs : List ℕ} {f
   pub step-copied : {n : ℕ} → OpenRun f attrs (length chars) (end - at) n → (n ≡ 0 → ⊥) → {c : ℕ} → c ≡ cellOf (f .width) (f .cursor)
       → {chars′ : List ℕ} {next : ℕ} → Copied bytes chars at (at + n) c chars′ next → {p : Place}
       → p ≡ place (f .cursor .x .0 + n) (f .cursor .y .0) → TextStep attrs bytes from g gs (at + n) (placed f p) chars′
-  step-copied r z q d e = record { on = λ f₀ chars₀ t. copied bytes f₀ at (s .on f₀ chars₀ t) r rest (omega arith) z q d e }
+  step-copied r z q d e = record { on = λ joins cr f₀ chars₀ t. copied (s .on joins cr f₀ chars₀ t) r rest (omega arith) z q d e }
 
   pub step-last : {next : ℕ} → LastCounts (view f attrs) at end next → {f′ : Frame} {chars′ : List ℕ}
       → Changes (hostCharacter (view f attrs) (getD bytes (next - 1) 0)) (screen chars attrs) f′ chars′
@@ -195,5 +191,6 @@ module _ {attrs bytes : List ℕ} {from at : ℕ} {g : Frame} {gs : List ℕ} {f
       let j : next ≡ at + suc k = omega (arith, l .further) in
       let few : Each printable bytes at (suc k) = record { each = λ i h. rest .each i (omega (arith, l .within)) } in
       record {
-        on = λ f₀ chars₀ t. rw j (last bytes f₀ at (s .on f₀ chars₀ t) k few (omega (arith, l .within)) (λ h. l .stays (omega arith)) (rw i at d));
+        on = λ joins cr f₀ chars₀ t. rw j (last (s .on joins cr f₀ chars₀ t) k few (omega (arith, l .within)) (λ h. l .stays (omega arith))
+            (rw i at d));
       }

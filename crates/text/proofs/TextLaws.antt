@@ -1,39 +1,61 @@
--- Laws of host data: it keeps the attribute bytes, and what is done so far is what the bytes so far do.
+-- Laws of host data: it changes nothing of a frame but its cursor, and what is done so far is what the bytes so far do.
 use mathlib.Core.Path.{_≡_, refl, sym, ap, _∙_}
+use mathlib.Core.Bool.{Bool, true, false}
 use mathlib.Core.List.{List, [], _∷_, _++_, append-nil, append-assoc}
 use Prim.Native.Nat.{ℕ, _+_, _≤_, _<_}
 use native.Mathlib.Numerals.{add-one}
 use lib.Dec.{eqb}
 use lib.ListN.{length, getD, take}
 use lib.Seq.{take-suc, take-all}
-use Rattle.words.proofs.Laws.{either}
+use Rattle.words.proofs.Laws.{either, true-or-false}
+use Rattle.screen.specs.declared.cell.Place.{Place}
 use Rattle.rules.specs.declared.Frame.{Frame}
-use Rattle.rules.specs.Session.{View, printable, screen, view}
-use Rattle.rules.specs.Effect.{Effect, changedAll, changing}
+use Rattle.rules.specs.Session.{View, printable, placed, screen, view, withCursor}
+use Rattle.rules.specs.Effect.{Effect, changedAll, changing, quiet}
 use Rattle.rules.specs.Cursor.{cursorGuarded}
 use Rattle.rules.specs.Telnet.{hostCharacter, hostData, hostText}
 use Rattle.rules.proofs.Characters.{changed-append}
-use Rattle.text.specs.Text.{Changes}
-use Rattle.text.specs.inner.Text.{Texted}
+use Rattle.text.specs.Text.{Changes, obeyedBytes}
+use Rattle.text.specs.inner.Text.{passedAt, controlAt, Texted}
+use Rattle.text.proofs.JoinedLaws.{obeyed-next, obeyed-none, not-passed, printed-no-lf}
+use Rattle.text.proofs.WriteLaws.{unprinted}
 
 -- ---- one byte
 
--- it keeps the attribute bytes, and draws no reply
-pub data-only : (v : View) (b : ℕ) → let e = hostData v b in e ≡ changing (view (e .view .frame) (v .attrs)) (e .changes)
+-- it changes nothing of a frame but its cursor, keeps the attribute bytes, and draws no reply
+data-whole : (v : View) (b : ℕ) → let e = hostData v b in e ≡ changing (withCursor v (e .view .frame .cursor)) (e .changes)
 unfolding hostData hostCharacter
-data-only v b =
-    let only : Effect → Type 0 = λ e. e ≡ changing (view (e .view .frame) (v .attrs)) (e .changes) in
+data-whole v b =
+    let only : Effect → Type 0 = λ e. e ≡ changing (withCursor v (e .view .frame .cursor)) (e .changes) in
     either only (printable b)
     (λ t. either only (cursorGuarded v) (λ g. refl) (λ g. refl))
     (λ t. either only (eqb b 13) (λ p. refl) (λ p. either only (eqb b 10) (λ q. refl) (λ q. either only (eqb b 8) (λ r. refl) (λ r. refl))))
 
+pub data-moves : (v : View) (b : ℕ) → let w = (hostData v b) .view in w ≡ withCursor v (w .frame .cursor)
+data-moves v b = ap (λ (e : Effect). e .view) (data-whole v b)
+
+pub data-only : (v : View) (b : ℕ) → let e = hostData v b in e ≡ changing (view (e .view .frame) (v .attrs)) (e .changes)
+data-only v b =
+    let e = hostData v b in
+    data-whole v b ∙ ap (λ (w : View). changing (view (w .frame) (v .attrs)) (e .changes)) (sym (data-moves v b))
+
+pub printed : (v : View) (b : ℕ) → printable b ≡ true → hostData v b ≡ hostCharacter v b
+unfolding hostData
+printed v b p = rw p
+
 -- ---- some bytes
 
--- it keeps the attribute bytes
-pub text-keeps : (v : View) (xs : List ℕ) → (hostText v xs) .view .attrs ≡ v .attrs
+-- they change nothing of a frame but its cursor
+pub text-moves : (v : View) (xs : List ℕ) → let w = (hostText v xs) .view in w ≡ withCursor v (w .frame .cursor)
 unfolding hostText
-text-keeps v [] = refl
-text-keeps v (x ∷ xs) = text-keeps ((hostData v x) .view) xs ∙ ap (λ (e : Effect). e .view .attrs) (data-only v x)
+text-moves v [] = refl
+text-moves v (x ∷ xs) =
+    let one = (hostData v x) .view in
+    let w = (hostText one xs) .view in
+    text-moves one xs ∙ ap (λ (u : View). withCursor u (w .frame .cursor)) (data-moves v x)
+
+pub text-keeps : (v : View) (xs : List ℕ) → (hostText v xs) .view .attrs ≡ v .attrs
+text-keeps v xs = ap (λ (w : View). w .attrs) (text-moves v xs)
 
 -- one byte after the others
 text-next : (v : View) (xs : List ℕ) (b : ℕ) → let e = hostText v xs in let one = hostData (e .view) b in
@@ -54,17 +76,42 @@ text-more {attrs} xs f₀ {f = f} r b one =
       characters = rw (changed-append, ← after, ← r .characters) (one .characters);
     })
 
-pub texted-none : (attrs bytes : List ℕ) (f : Frame) (chars : List ℕ) → Texted attrs bytes f chars 0 f chars
+pub texted-none : (attrs : List ℕ) (joins cr : Bool) (bytes : List ℕ) (f : Frame) (chars : List ℕ)
+    → Texted attrs joins cr bytes f chars 0 f chars
 unfolding hostText changedAll
-texted-none attrs bytes f chars = record { frame = refl; characters = refl }
+texted-none attrs joins cr bytes f chars = record { done = rw (obeyed-none joins cr) (record { frame = refl; characters = refl }) }
 
-module _ {attrs : List ℕ} (bytes : List ℕ) (f₀ : Frame) {chars₀ : List ℕ} (at : ℕ) {f : Frame} {chars : List ℕ}
-    (r : Texted attrs bytes f₀ chars₀ at f chars) where
-  -- a byte more
-  pub texted-more : {f′ : Frame} {chars′ : List ℕ} → at < length bytes
-      → Changes (hostData (view f attrs) (getD bytes at 0)) (screen chars attrs) f′ chars′ → Texted attrs bytes f₀ chars₀ (at + 1) f′ chars′
-  texted-more h one = rw (add-one, take-suc bytes at 0 h) (text-more (take at bytes) f₀ r (getD bytes at 0) one)
+module _ {attrs : List ℕ} {joins cr : Bool} {bytes : List ℕ} {f₀ : Frame} {chars₀ : List ℕ} {at : ℕ} {f : Frame} {chars : List ℕ}
+    (r : Texted attrs joins cr bytes f₀ chars₀ at f chars) where
+  -- a byte more, which is obeyed
+  pub texted-more : {f′ : Frame} {chars′ : List ℕ} → at < length bytes → passedAt joins cr bytes at ≡ false
+      → Changes (hostData (view f attrs) (getD bytes at 0)) (screen chars attrs) f′ chars′
+      → Texted attrs joins cr bytes f₀ chars₀ (at + 1) f′ chars′
+  texted-more h p one = record {
+    done = rw (add-one, take-suc bytes at 0 h, obeyed-next, p)
+        (text-more (obeyedBytes joins cr (take at bytes)) f₀ (r .done) (getD bytes at 0) one);
+  }
+
+  -- or passed over
+  texted-passed : at < length bytes → passedAt joins cr bytes at ≡ true → Texted attrs joins cr bytes f₀ chars₀ (at + 1) f chars
+  texted-passed h p = record { done = rw (add-one, take-suc bytes at 0 h, obeyed-next, p, append-nil) (r .done) }
+
+  -- a character more
+  pub texted-character : {f′ : Frame} {chars′ : List ℕ} → at < length bytes → printable (getD bytes at 0) ≡ true
+      → Changes (hostCharacter (view f attrs) (getD bytes at 0)) (screen chars attrs) f′ chars′
+      → Texted attrs joins cr bytes f₀ chars₀ (at + 1) f′ chars′
+  texted-character h p one =
+      texted-more h (not-passed joins cr bytes at (printed-no-lf (getD bytes at 0) p)) (rw (printed (view f attrs) (getD bytes at 0) p) one)
+
+  -- no character
+  pub texted-control : {p : Place} → at < length bytes → printable (getD bytes at 0) ≡ false
+      → controlAt (view f attrs) joins cr bytes at ≡ quiet (view (placed f p) attrs)
+      → Texted attrs joins cr bytes f₀ chars₀ (at + 1) (placed f p) chars
+  texted-control h n e =
+      true-or-false (passedAt joins cr bytes at)
+      (λ t. rw (← ap (λ (e : Effect). e .view .frame) (rw t at e)) (texted-passed h t))
+      (λ t. texted-more h t (unprinted (view f attrs) (getD bytes at 0) n (rw t at e)))
 
   -- all of them
-  pub texted-all : length bytes ≤ at → Changes (hostText (view f₀ attrs) bytes) (screen chars₀ attrs) f chars
-  texted-all h = rw (take-all at bytes h) at r
+  pub texted-all : length bytes ≤ at → Changes (hostText (view f₀ attrs) (obeyedBytes joins cr bytes)) (screen chars₀ attrs) f chars
+  texted-all h = rw (take-all at bytes h) at (r .done)

@@ -21,6 +21,10 @@ joined cr (b ∷ bs) =
     let rest = joined (eqb b 13) bs in
     if cr && eqb b 10 then rest else b ∷ rest
 
+-- the bytes of data that are obeyed: these, or all of them where CR LF is printed as such
+abbrev pub obeyedBytes : Bool → Bool → List ℕ → List ℕ
+obeyedBytes joins cr bytes = if joins then joined cr bytes else bytes
+
 -- is the last byte of data a CR, these having come after it
 unfoldable pub endsInCr : Bool → List ℕ → Bool
 endsInCr cr [] = cr

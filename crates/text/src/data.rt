@@ -1,15 +1,18 @@
 // Host data: characters are written into their cells, and the cursor moves. It changes nothing else of a frame: the functions that take it
 // in return the cursor, so that their cost is not the frame's size.
 ghost use mathlib.Core.Path.{_≡_};
-ghost use Prim.Native.Nat.{_+_, _-_, _≤_, _<_};
+ghost use Prim.Native.Nat.{ℕ, _+_, _-_, _≤_, _<_};
+ghost use mathlib.Core.List.{List};
 ghost use lib.ListN.{length, set};
 ghost use Rattle.screen.specs.Cells.{place};
-ghost use Rattle.rules.specs.Session.{printable, placed};
+ghost use Rattle.rules.specs.Session.{printable, placed, view};
+ghost use Rattle.rules.specs.Effect.{quiet};
 ghost use Rattle.rules.specs.Telnet.{hostCharacter, hostData, hostText};
 ghost use Rattle.command.specs.Frame.{lent, seen};
-ghost use Rattle.text.specs.Text.{Changes};
-ghost use Rattle.text.specs.inner.Text.{TextStep};
+ghost use Rattle.text.specs.Text.{Changes, obeyedBytes};
+ghost use Rattle.text.specs.inner.Text.{controlAt, TextStep};
 ghost use Rattle.text.specs.inner.Plain.{Each};
+use crate::joined::is_joined;
 use crate::plain::character_at;
 use crate::plain::count_characters;
 use crate::plain::last_counts;
@@ -82,7 +85,8 @@ fn put_text(
     attrs: &[u8],
 ) -> Place
     requires { ⌜ (from ≤ end) × (end ≤ length (now bytes)) × Each printable (now bytes) from (end - from) ⌝ }
-    ensures { λ r. ⌜ TextStep (now (attrs .entry)) (now (bytes .entry)) from frame (now (chars .entry)) end (placed frame r) (now (chars .exit)) ⌝ }
+    ensures { λ r. ⌜ TextStep (now (attrs .entry)) (now (bytes .entry)) from frame (now (chars .entry))
+        end (placed frame r) (now (chars .exit)) ⌝ }
 {
     let mut cursor = frame.cursor;
     let mut at = from;
@@ -102,9 +106,33 @@ fn put_text(
     cursor
 }
 
-// Data: the frame after it. It does what its bytes do one after the other. One character alone is not worth a copy.
-pub fn host_text(frame: Frame, bytes: &[u8], chars: &mut [u8], attrs: &[u8]) -> Frame
-    ensures { λ r. ⌜ Changes (hostText (seen frame (attrs .entry)) (now (bytes .entry)))
+// What is no character, at a place of the data: the cursor after it. No byte but an LF asks whether it is passed over.
+fn obey_control(frame: Frame, joins: bool, cr: bool, bytes: &[u8], at: usize) -> Place
+    requires { ⌜ at < length (now bytes) ⌝ }
+    ensures { λ r. ⌜ ((attrs : List ℕ) → controlAt (view frame attrs) joins cr (now (bytes .entry)) at ≡ quiet (view (placed frame r) attrs)) ⌝ }
+{
+    let byte = bytes[at];
+    if byte != 10 {
+        return control(frame, byte);
+    }
+    let passed = is_joined(joins, cr, bytes, at);
+    if passed {
+        return frame.cursor;
+    }
+    control(frame, byte)
+}
+
+// Data: the frame after it. It does what its bytes do one after the other. Where `joins`, an LF right after a CR is passed over, and `cr`
+// tells whether a CR came last before the first byte. One character alone is not worth a copy.
+pub fn obey_text(
+    frame: Frame,
+    joins: bool,
+    cr: bool,
+    bytes: &[u8],
+    chars: &mut [u8],
+    attrs: &[u8],
+) -> Frame
+    ensures { λ r. ⌜ Changes (hostText (seen frame (attrs .entry)) (obeyedBytes joins cr (now (bytes .entry))))
         (lent (chars .entry) (attrs .entry)) r (now (chars .exit)) ⌝ }
 {
     let mut cursor = frame.cursor;
@@ -114,7 +142,7 @@ pub fn host_text(frame: Frame, bytes: &[u8], chars: &mut [u8], attrs: &[u8]) -> 
         let now = moved(frame, cursor);
         let text = is_printable(byte);
         if !text {
-            cursor = control(now, byte);
+            cursor = obey_control(now, joins, cr, bytes, at);
             at += 1;
             continue;
         }
@@ -129,4 +157,12 @@ pub fn host_text(frame: Frame, bytes: &[u8], chars: &mut [u8], attrs: &[u8]) -> 
         at = end;
     }
     moved(frame, cursor)
+}
+
+// Data, all of it obeyed: the frame after it.
+pub fn host_text(frame: Frame, bytes: &[u8], chars: &mut [u8], attrs: &[u8]) -> Frame
+    ensures { λ r. ⌜ Changes (hostText (seen frame (attrs .entry)) (now (bytes .entry)))
+        (lent (chars .entry) (attrs .entry)) r (now (chars .exit)) ⌝ }
+{
+    obey_text(frame, false, false, bytes, chars, attrs)
 }

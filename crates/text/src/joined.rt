@@ -1,53 +1,47 @@
-// Host data while CR LF is printed as CR, and whether data ends in a CR.
+// An LF right after a CR is passed over while CR LF is printed as CR.
 ghost use mathlib.Core.Path.{_≡_};
 ghost use mathlib.Core.Bool.{_&&_};
-ghost use lib.Dec.{eqb};
+ghost use Prim.Native.Nat.{_≤_};
+ghost use lib.ListN.{length, take};
 ghost use Rattle.rules.specs.Telnet.{hostText};
 ghost use Rattle.command.specs.Frame.{lent, seen};
 ghost use Rattle.text.specs.Text.{Changes, joined, endsInCr};
-use crate::data::take_data;
-use command::frame::moved;
+use crate::data::obey_text;
 use rules::Frame;
 
-// Is an LF right after a CR?
-fn is_joined(cr: bool, byte: u8) -> bool
-    ensures { λ r. ⌜ r ≡ (cr && eqb byte 10) ⌝ }
+// Did a CR come last before this place? Before the first byte, as it was.
+fn after_cr(cr: bool, bytes: &[u8], at: usize) -> bool
+    requires { ⌜ at ≤ length (now bytes) ⌝ }
+    ensures { λ r. ⌜ r ≡ endsInCr cr (take at (now (bytes .entry))) ⌝ }
 {
-    if cr {
-        return byte == 10;
+    if at == 0 {
+        return cr;
     }
-    false
-}
-
-// Data, a byte at a time: an LF right after a CR is passed over. `cr` tells whether a CR came last before it.
-pub fn joined_text(frame: Frame, cr: bool, bytes: &[u8], chars: &mut [u8], attrs: &[u8]) -> Frame
-    ensures { λ r. ⌜ Changes (hostText (seen frame (attrs .entry)) (joined cr (now (bytes .entry))))
-        (lent (chars .entry) (attrs .entry)) r (now (chars .exit)) ⌝ }
-{
-    let mut cursor = frame.cursor;
-    let mut last = cr;
-    let mut at = 0;
-    while at < bytes.len() {
-        let byte = bytes[at];
-        let passed = is_joined(last, byte);
-        last = byte == 13;
-        at += 1;
-        if passed {
-            continue;
-        }
-        let now = moved(frame, cursor);
-        cursor = take_data(now, byte, chars, attrs);
-    }
-    moved(frame, cursor)
+    bytes[at - 1] == 13
 }
 
 // Is the last byte a CR? Where there is none, as before.
 pub fn ends_in_cr(cr: bool, bytes: &[u8]) -> bool
     ensures { λ r. ⌜ r ≡ endsInCr cr (now (bytes .entry)) ⌝ }
 {
-    let count = bytes.len();
-    if count == 0 {
-        return cr;
+    after_cr(cr, bytes, bytes.len())
+}
+
+// Is an LF at this place passed over?
+pub(crate) fn is_joined(joins: bool, cr: bool, bytes: &[u8], at: usize) -> bool
+    requires { ⌜ at ≤ length (now bytes) ⌝ }
+    ensures { λ r. ⌜ r ≡ (joins && endsInCr cr (take at (now (bytes .entry)))) ⌝ }
+{
+    if joins {
+        return after_cr(cr, bytes, at);
     }
-    bytes[count - 1] == 13
+    false
+}
+
+// Data, an LF right after a CR passed over: the frame after it. `cr` tells whether a CR came last before it.
+pub fn joined_text(frame: Frame, cr: bool, bytes: &[u8], chars: &mut [u8], attrs: &[u8]) -> Frame
+    ensures { λ r. ⌜ Changes (hostText (seen frame (attrs .entry)) (joined cr (now (bytes .entry))))
+        (lent (chars .entry) (attrs .entry)) r (now (chars .exit)) ⌝ }
+{
+    obey_text(frame, true, cr, bytes, chars, attrs)
 }

@@ -13,13 +13,10 @@ use Rattle.rules.specs.Session.{View, lineTakesKeys, screen}
 use Rattle.rules.specs.Effect.{Effect, quiet}
 use Rattle.rules.specs.Telnet.{negotiated, hostData, hostText}
 use Rattle.decide.specs.Decision.{endedDet}
-use Rattle.text.specs.Text.{Changes, joined, endsInCr}
+use Rattle.text.specs.Text.{Changes, obeyedBytes, endsInCr}
 use Rattle.det.specs.declared.data.DataTurn.{DataTurn}
 
--- the bytes of data that are obeyed: lf tells whether CR LF is printed as such, cr whether a CR came last before them
-abbrev pub obeyedBytes : Bool → Bool → List ℕ → List ℕ
-obeyedBytes joins cr bytes = if joins then joined cr bytes else bytes
-
+-- what some bytes do: lf tells whether CR LF is printed as such, cr whether a CR came last before them
 pub record DataDone (v : View) (lf cr : Bool) (bytes chars : List ℕ) (t : DataTurn) (chars′ : List ℕ) : Type 0 where
   pub done : Changes (hostText v (obeyedBytes (lineTakesKeys (v .frame) && not lf) cr bytes)) (screen chars (v .attrs)) (t .frame) chars′
   pub ends : t .cr ≡ endsInCr cr bytes

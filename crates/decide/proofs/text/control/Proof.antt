@@ -24,7 +24,8 @@ bs c = λ attrs. rw (c .before .match .keys3, c .left .ensures)
 others : tie.Need-returns-4
 unfolding controlOf hostData destination
 others c = λ attrs. let r = c .before .match .rest in
-    true-or-false (printable (c .before .before .args .byte)) (λ e. rw e) (λ e. rw (e, ne-eqb _ _ (r .1), ne-eqb _ _ (r .0 .1), ne-eqb _ _ (r .0 .0 .1)))
+    true-or-false (printable (c .before .before .args .byte)) (λ e. rw e)
+    (λ e. rw (e, ne-eqb _ _ (r .1), ne-eqb _ _ (r .0 .1), ne-eqb _ _ (r .0 .0 .1)))
 
 pub control-spec : {M : Type 1} → statement M
 control-spec =

@@ -1,5 +1,4 @@
--- `take_bytes` meets its contract: CR LF is printed as CR, or all is obeyed.
-use mathlib.Core.Path.{sym, _∙_}
+-- `take_bytes` meets its contract.
 use borrow.Author.Needs.{needs}
 use Rattle.det.proofs.data.take_bytes.Statement.{statement}
 use Rattle.det.proofs.data.take_bytes.Tie as tie
@@ -10,11 +9,5 @@ take-bytes-spec =
     (tie.spec
     (λ c κs. search needs) (λ c κs. search needs) (λ c κs. search needs) (λ c. search needs)
     (λ c. let d = c .before .before in
-    let i = d .before .before in
-    let j = i .before in
-    record { done = rw (sym (j .is-joining .ensures) ∙ i .if1 .taken) (d .joined-text .ensures); ends = j .before .ends-in-cr .ensures })
-    (λ c κs. search needs) (λ c. search needs)
-    (λ c. let d = c .before .before in
-    let i = d .before .before in
-    let j = i .before in
-    record { done = rw (sym (j .is-joining .ensures) ∙ i .if1 .left) (d .host-text .ensures); ends = j .before .ends-in-cr .ensures }))
+    let j = d .before .before in
+    record { done = rw (j .is-joining .ensures) at (d .obey-text .ensures); ends = j .before .ends-in-cr .ensures }))

@@ -31,7 +31,8 @@ put-text-spec =
     let i = t .before .loop .inv in
     let pre = t .before .before .before .before .before .before .pre in
     let e = m .moved .ensures in (
-      step-last (i .0) (pre .2) (i .1) (t .loop-test .taken) (pre .1) (rw e at (l .last-counts .ensures)) (rw e at (d .put-character .ensures)),
+      step-last (i .0) (pre .2) (i .1) (t .loop-test .taken) (pre .1) (rw e at (l .last-counts .ensures))
+          (rw e at (d .put-character .ensures)),
       omega (arith, i .1, l .last-counts .ensures .further),
       l .last-counts .ensures .within,
       search needs,
@@ -46,8 +47,8 @@ put-text-spec =
     let i = t .before .loop .inv in
     let pre = t .before .before .before .before .before .before .pre in
     let e = m .moved .ensures in (
-      step-copied (i .0) (pre .2) (i .1) (t .loop-test .taken) (pre .1) (rw e at (o .open-run .ensures)) (d .before .before .before .if1 .left)
-          (rw e at (d .before .cursor-cell .ensures)) (d .copy-text .ensures) (rw e at (c .gone-right .ensures)),
+      step-copied (i .0) (pre .2) (i .1) (t .loop-test .taken) (pre .1) (rw e at (o .open-run .ensures))
+          (d .before .before .before .if1 .left) (rw e at (d .before .cursor-cell .ensures)) (d .copy-text .ensures) (rw e at (c .gone-right .ensures)),
       omega (arith, i .1),
       omega (arith, t .loop-test .taken, o .open-run .ensures .few),
       search needs,

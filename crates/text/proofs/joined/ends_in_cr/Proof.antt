@@ -1,14 +1,9 @@
--- `ends_in_cr` meets its contract: no byte, or the last one.
-use native.Mathlib.Omega.{arith}
+-- `ends_in_cr` meets its contract: the place is the end.
+use mathlib.Core.Path.{_∙_}
 use borrow.Author.Needs.{needs}
-use Rattle.text.proofs.JoinedLaws.{ends-none, ends-last}
+use Rattle.text.proofs.JoinedLaws.{ends-all}
 use Rattle.text.proofs.joined.ends_in_cr.Statement.{statement}
 use Rattle.text.proofs.joined.ends_in_cr.Tie as tie
 
 pub ends-in-cr-spec : {M : Type 1} → statement M
-ends-in-cr-spec =
-    tie.close
-    (tie.spec
-    (λ c. ends-none _ _ (c .if1 .taken))
-    (λ c. search needs) (λ c. search needs)
-    (λ c. ends-last _ _ (omega (arith, c .before .if1 .left))))
+ends-in-cr-spec = tie.close (tie.spec (λ c κs. search needs) (λ c. c .after-cr .ensures ∙ ends-all _ _))

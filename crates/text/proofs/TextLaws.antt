@@ -22,22 +22,25 @@ use Rattle.text.proofs.WriteLaws.{unprinted}
 
 -- ---- one byte
 
--- it changes nothing of a frame but its cursor, keeps the attribute bytes, and draws no reply
-data-whole : (v : View) (b : ℕ) → let e = hostData v b in e ≡ changing (withCursor v (e .view .frame .cursor)) (e .changes)
+-- an effect that changes nothing of a frame but its cursor, keeps the attribute bytes, and draws no reply
+record Moves (v : View) (e : Effect) : Type 0 where
+  moves : e .view ≡ withCursor v (e .view .frame .cursor)
+  only : e ≡ changing (view (e .view .frame) (v .attrs)) (e .changes)
+
+data-does : (v : View) (b : ℕ) → Moves v (hostData v b)
 unfolding hostData hostCharacter
-data-whole v b =
-    let only : Effect → Type 0 = λ e. e ≡ changing (withCursor v (e .view .frame .cursor)) (e .changes) in
-    either only (printable b)
-    (λ t. either only (cursorGuarded v) (λ g. refl) (λ g. refl))
-    (λ t. either only (eqb b 13) (λ p. refl) (λ p. either only (eqb b 10) (λ q. refl) (λ q. either only (eqb b 8) (λ r. refl) (λ r. refl))))
+data-does v b =
+    either (Moves v) (printable b)
+    (λ t. either (Moves v) (cursorGuarded v) (λ g. record { moves = refl; only = refl }) (λ g. record { moves = refl; only = refl }))
+    (λ t. either (Moves v) (eqb b 13) (λ p. record { moves = refl; only = refl })
+    (λ p. either (Moves v) (eqb b 10) (λ q. record { moves = refl; only = refl })
+    (λ q. either (Moves v) (eqb b 8) (λ r. record { moves = refl; only = refl }) (λ r. record { moves = refl; only = refl }))))
 
 pub data-moves : (v : View) (b : ℕ) → let w = (hostData v b) .view in w ≡ withCursor v (w .frame .cursor)
-data-moves v b = ap (λ (e : Effect). e .view) (data-whole v b)
+data-moves v b = data-does v b .moves
 
 pub data-only : (v : View) (b : ℕ) → let e = hostData v b in e ≡ changing (view (e .view .frame) (v .attrs)) (e .changes)
-data-only v b =
-    let e = hostData v b in
-    data-whole v b ∙ ap (λ (w : View). changing (view (w .frame) (v .attrs)) (e .changes)) (sym (data-moves v b))
+data-only v b = data-does v b .only
 
 pub printed : (v : View) (b : ℕ) → printable b ≡ true → hostData v b ≡ hostCharacter v b
 unfolding hostData

@@ -8,7 +8,7 @@ ghost use Rattle.text.specs.Text.{Changes};
 ghost use Rattle.det.specs.inner.Data.{dataEffect, DataDone};
 use command::frame::moved;
 use rules::Frame;
-use text::data::obey_text;
+use text::data::host_text;
 use text::data::take_data;
 use text::joined::ends_in_cr;
 
@@ -77,7 +77,7 @@ pub(crate) fn take_bytes(
 {
     let ends = ends_in_cr(cr, bytes);
     let joins = is_joining(frame, lf);
-    let after = obey_text(frame, joins, cr, bytes, chars, attrs);
+    let after = host_text(frame, joins, cr, bytes, chars, attrs);
     DataTurn {
         frame: after,
         cr: ends,

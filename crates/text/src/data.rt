@@ -1,8 +1,8 @@
 // Host data: characters are written into their cells, and the cursor moves. It changes nothing else of a frame: the functions that take it
 // in return the cursor, so that their cost is not the frame's size.
 ghost use mathlib.Core.Path.{_≡_};
-ghost use Prim.Native.Nat.{ℕ, _+_, _-_, _≤_, _<_};
 ghost use mathlib.Core.List.{List};
+ghost use Prim.Native.Nat.{ℕ, _+_, _-_, _≤_, _<_};
 ghost use lib.ListN.{length, set};
 ghost use Rattle.screen.specs.Cells.{place};
 ghost use Rattle.rules.specs.Session.{printable, placed, view};
@@ -124,7 +124,7 @@ fn obey_control(frame: Frame, joins: bool, cr: bool, bytes: &[u8], at: usize) ->
 
 // Data: the frame after it. It does what its bytes do one after the other. Where `joins`, an LF right after a CR is passed over, and `cr`
 // tells whether a CR came last before the first byte. One character alone is not worth a copy.
-pub fn obey_text(
+pub fn host_text(
     frame: Frame,
     joins: bool,
     cr: bool,
@@ -157,12 +157,4 @@ pub fn obey_text(
         at = end;
     }
     moved(frame, cursor)
-}
-
-// Data, all of it obeyed: the frame after it.
-pub fn host_text(frame: Frame, bytes: &[u8], chars: &mut [u8], attrs: &[u8]) -> Frame
-    ensures { λ r. ⌜ Changes (hostText (seen frame (attrs .entry)) (now (bytes .entry)))
-        (lent (chars .entry) (attrs .entry)) r (now (chars .exit)) ⌝ }
-{
-    obey_text(frame, false, false, bytes, chars, attrs)
 }

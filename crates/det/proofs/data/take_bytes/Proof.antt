@@ -10,4 +10,4 @@ take-bytes-spec =
     (λ c κs. search needs) (λ c κs. search needs) (λ c κs. search needs) (λ c. search needs)
     (λ c. let d = c .before .before in
     let j = d .before .before in
-    record { done = rw (j .is-joining .ensures) at (d .obey-text .ensures); ends = j .before .ends-in-cr .ensures }))
+    record { done = rw (j .is-joining .ensures) at (d .host-text .ensures); ends = j .before .ends-in-cr .ensures }))

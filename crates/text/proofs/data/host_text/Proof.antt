@@ -1,4 +1,4 @@
--- `obey_text` meets its contract. In the loop, what is done so far is what the bytes so far do.
+-- `host_text` meets its contract. In the loop, what is done so far is what the bytes so far do.
 use mathlib.Core.Path.{_≡_, refl}
 use Prim.Native.Nat.{_-_}
 use native.Mathlib.Omega.{arith}
@@ -10,11 +10,11 @@ use Rattle.text.specs.inner.Text.{Texted}
 use Rattle.screen.proofs.TestLaws.{failing, passing}
 use Rattle.text.proofs.TextLaws.{texted-none, texted-character, texted-control, texted-all}
 use Rattle.text.proofs.PlainLaws.{each-two, each-row}
-use Rattle.text.proofs.data.obey_text.Statement.{statement}
-use Rattle.text.proofs.data.obey_text.Tie as tie
+use Rattle.text.proofs.data.host_text.Statement.{statement}
+use Rattle.text.proofs.data.host_text.Tie as tie
 
-pub obey-text-spec : {M : Type 1} → statement M
-obey-text-spec =
+pub host-text-spec : {M : Type 1} → statement M
+host-text-spec =
     tie.close
     (tie.spec
     (λ frame joins cr bytes chars₀ attrs cursor₀ at₀ chars cursor at.

@@ -26,10 +26,9 @@ use Rattle.rules.specs.declared.Held.{Held}
 use Rattle.rules.specs.declared.Frame.{Frame}
 use Rattle.rules.specs.declared.Reader.{Reader}
 use Rattle.rules.specs.declared.Pad.{Pad}
-use Rattle.rules.specs.Session.{noneHeld, Screen, State, View, printable, lineTakesKeys, session, screen, state, view}
+use Rattle.rules.specs.Session.{noneHeld, Screen, State, View, lineTakesKeys, session, screen, state, view}
 use Rattle.rules.specs.Effect.{Effect, changedAll, spelledAll, quiet}
-use Rattle.rules.specs.Cursor.{cursorGuarded}
-use Rattle.rules.specs.Telnet.{holding, heldAfter, crAfter, hostCharacter, hostData, hostText}
+use Rattle.rules.specs.Telnet.{holding, heldAfter, crAfter, hostData, hostText}
 use Rattle.rules.specs.Pad.{isX3, counts, withMessage, padAfter, joins, passes}
 use Rattle.rules.specs.Operation.{Ran, happening, hostByte, applied, running}
 use Rattle.rules.proofs.Characters.{changed-append}

@@ -1,5 +1,4 @@
 -- `obey_control` meets its contract: no LF, an LF that is passed over, and any other.
-use mathlib.Core.Path.{refl}
 use borrow.Author.Needs.{needs}
 use borrow.Author.Tests.{eq-eqb, ne-eqb}
 use Rattle.text.proofs.JoinedLaws.{not-passed}

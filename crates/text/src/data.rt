@@ -109,7 +109,8 @@ fn put_text(
 // What is no character, at a place of the data: the cursor after it. No byte but an LF asks whether it is passed over.
 fn obey_control(frame: Frame, joins: bool, cr: bool, bytes: &[u8], at: usize) -> Place
     requires { ⌜ at < length (now bytes) ⌝ }
-    ensures { λ r. ⌜ ((attrs : List ℕ) → controlAt (view frame attrs) joins cr (now (bytes .entry)) at ≡ quiet (view (placed frame r) attrs)) ⌝ }
+    ensures { λ r. ⌜ ((attrs : List ℕ)
+        → controlAt (view frame attrs) joins cr (now (bytes .entry)) at ≡ quiet (view (placed frame r) attrs)) ⌝ }
 {
     let byte = bytes[at];
     if byte != 10 {

@@ -50,7 +50,8 @@ host-text-spec =
       omega arith,
       n .count-characters .ensures .0,
       each-row
-          (each-two (passing (p .is-printable .ensures) (t .before .if1 .left)) (t .character-at .ensures (not-false _ (n .before .if2 .left)) .1))
+          (each-two (passing (p .is-printable .ensures) (t .before .if1 .left))
+          (t .character-at .ensures (not-false _ (n .before .if2 .left)) .1))
           (n .count-characters .ensures .1),
     ))
     (λ c. omega (arith, c .before .before .before .before .before .before .before .before .before .before .before .loop-test .taken))

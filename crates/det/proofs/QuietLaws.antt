@@ -103,29 +103,38 @@ module _ (f : Frame) (held : Held) (cr : Bool) (p : Pad) (b : Screen) where
 abbrev effectOf : Bool → Frame → Bool → Screen → List ℕ → Effect
 effectOf j f cr b xs = hostText (view f (b .attrs)) (obeyedBytes j cr xs)
 
-data-ran : (xs : List ℕ) → No255 xs → (f : Frame) (held : Held) (cr : Bool) (p : Pad) (b : Screen) (j : Bool) → joins f p ≡ j →
+abbrev DataRan : List ℕ → Type 0
+DataRan xs =
+    (f : Frame) (held : Held) (cr : Bool) (p : Pad) (b : Screen) (j : Bool) → joins f p ≡ j →
     let e = effectOf j f cr b xs in
     running (standing f Rest held cr p b) xs
     ≡ still (standing (e .view .frame) Rest held (endsInCr cr xs) p (screen (changedAll (b .chars) (b .attrs) (e .changes)) (b .attrs)))
+
+none-ran : DataRan []
+unfolding running hostText changedAll joined endsInCr
+none-ran f held cr p b true k = refl
+none-ran f held cr p b false k = refl
+
+more-ran : (x : ℕ) (xs : List ℕ) → (x ≡ 255 → ⊥) → DataRan xs → DataRan (x ∷ xs)
 unfolding running hostText changedAll joined endsInCr passes
-data-ran [] n f held cr p b true k = refl
-data-ran [] n f held cr p b false k = refl
-data-ran (x ∷ xs) n f held cr p b j k =
+more-ran x xs plain ran f held cr p b j k =
     let v = view f (b .attrs) in
     let e = hostData v x in
-    let plain = n 0 (omega arith) in
-    let more : No255 xs = λ i h. n (suc i) (omega arith) in
     let kept : e .view ≡ view (e .view .frame) (b .attrs) = ap (λ (q : Effect). q .view) (data-only v x) in
     let after = screen (changedAll (b .chars) (b .attrs) (e .changes)) (b .attrs) in
     let obeyed : passes f p cr x ≡ false → running (standing f Rest held cr p b) (x ∷ xs) ≡ running (standing (e .view .frame) Rest held (eqb x 13) p after) xs =
     λ q. rw (rest-data f held cr p b plain q (record { frame = refl; characters = refl })) in
     let still-joins : joins (e .view .frame) p ≡ j = ap (λ t. t && not (printsLf (p .values))) (data-modes v x) ∙ k in
-    let rest = data-ran xs more (e .view .frame) held (eqb x 13) p after j still-joins in
+    let rest = ran (e .view .frame) held (eqb x 13) p after j still-joins in
     true-or-false j
     (λ t. true-or-false (cr && eqb x 10)
-    (λ q. rw (rest-passed f held cr p b plain (rw (k, t, q)), t, q) (rw t at (data-ran xs more f held (eqb x 13) p b j k)))
+    (λ q. rw (rest-passed f held cr p b plain (rw (k, t, q)), t, q) (rw t at (ran f held (eqb x 13) p b j k)))
     (λ q. obeyed (rw (k, t, q)) ∙ rw (rest, t, q, kept, changed-append)))
     (λ t. obeyed (rw (k, t)) ∙ rw (rest, t, kept, changed-append))
+
+data-ran : (xs : List ℕ) → No255 xs → DataRan xs
+data-ran [] n = none-ran
+data-ran (x ∷ xs) n = more-ran x xs (n 0 (omega arith)) (data-ran xs (λ i h. n (suc i) (omega arith)))
 
 held-ran : (xs : List ℕ) → No255 xs → (f : Frame) (option : ℕ) → isX3 option ≡ false → (held : Held) (cr : Bool) (p : Pad) (b : Screen)
     → running (standing f (Inside option) held cr p b) xs ≡ still (standing f (Inside option) (holdingAll held xs) cr p b)

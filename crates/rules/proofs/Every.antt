@@ -1,30 +1,62 @@
 -- Sentences of document 01 that range over all codes, keys, options or bytes: each once, over all of them.
-use mathlib.Core.Path.{_≡_, refl}
+use mathlib.Core.Path.{_≡_, refl, _∙_}
 use mathlib.Core.Bool.{Bool, true, false}
 use mathlib.Core.List.{List, [], _∷_, _++_}
 use Prim.Native.Nat.{ℕ, _-_, _<_, min, _*_}
+use Prim.Native.String.{String}
 use borrow.Author.Tests.{eqb-true}
 use lib.Dec.{leb, eqb}
 use lib.ListN.{replicate}
 use Rattle.telnet.specs.declared.Phase.the-variants.{Iac, InsideIac}
+use Rattle.telnet.specs.declared.Event.the-variants.{End}
+use Rattle.telnet.specs.declared.Step.{Step}
 use Rattle.telnet.specs.declared.Verb.the-variants.{Will, Wont, Do, Dont}
+use Rattle.telnet.specs.Reader.{reader}
 use Rattle.telnet.specs.Writer.{subnegotiation, negotiation}
 use Rattle.words.specs.Words.{if_then_else_, between}
+use Rattle.words.proofs.Laws.{either}
 use Rattle.rules.specs.declared.Held.{Held}
+use Rattle.rules.specs.declared.Refusal.the-variants.{Taken}
 use Rattle.rules.specs.declared.Facility.the-variants.{Editing, Erasing, Transmitting, Formatting}
-use Rattle.rules.specs.declared.Command.the-variants.{Facilities, Error}
-use Rattle.rules.specs.Session.{View, State, withX3, screen, withModes, withFrame}
-use Rattle.rules.specs.Refusal.{numberOf}
+use Rattle.rules.specs.declared.Command.the-variants.{Facilities, MoveCursor, FormatData, Repeat, SuppressProtection, Error}
+use Rattle.rules.specs.declared.Fault.the-variants.{TooFewParameters}
+use Rattle.rules.specs.Session.{View, State, viewOf, withX3, freshPad, screen, withModes, withFrame}
+use Rattle.rules.specs.Refusal.{numberOf, verdict}
 use Rattle.rules.specs.Effect.{bytes, saying, quiet}
-use Rattle.rules.specs.Command.{Listed, listed, unlisted, rowOf, codeIn}
+use Rattle.rules.specs.Command.{Row, row, never, always, onlyWith, Listed, listed, unlisted, rowOf, codeIn, faultOf}
 use Rattle.rules.specs.Telnet.{optionOf, isOn, accepts, turned, switchedOn, switchedOff, negotiated}
-use Rattle.rules.specs.Subcommand.{obeyed, looked, subcommand}
-use Rattle.rules.specs.Operation.{opened}
+use Rattle.rules.specs.Subcommand.{obeyed, erring, judged, looked, subcommand}
+use Rattle.rules.specs.Pad.{padAfter}
+use Rattle.rules.specs.Operation.{Ran, applied, happening, readerAfter, hostByte, running, pressTests, keyRan, opened}
 use Rattle.rules.specs.Call.{host, key, called}
 use Rattle.rules.specs.Executed.{oneOf}
 use Rattle.rules.specs.cases.Computing.{computing}
-use Rattle.rules.specs.cases.Vocabulary.{Seen, look, lent, seen, same, failures, Sweep, sweep, SweepsPass, characters, starting, at, modes, reading, afterCr, showing, attributed, unchanged, seeing}
-use Rattle.rules.proofs.Passing.{same-equal, below-passes, EachEverywhere, each-everywhere}
+use Rattle.rules.specs.cases.Vocabulary.{
+  look,
+  lent,
+  Brief,
+  brief,
+  briefly,
+  same,
+  sameBeside,
+  failures,
+  Sweep,
+  sweep,
+  ifNone,
+  Everywhere,
+  characters,
+  starting,
+  at,
+  modes,
+  reading,
+  afterCr,
+  showing,
+  attributed,
+  unchanged,
+  seeing,
+}
+use Rattle.rules.proofs.Passing.{same-equal, below-passes, everywhere}
+use Rattle.rules.proofs.Ready.{passing, ready, key-full, byte-full, pad-kept}
 -- the worked cases are checked first
 use Rattle.rules.proofs.Slow.{slow-holds}
 
@@ -69,20 +101,42 @@ abbrev keyed : Bool → State
 keyed on = modes on false (starting 3 1 false (characters "abc") (0 ∷ 0 ∷ 1 ∷ []) 1 0)
 
 -- what each key leaves there and says: typed, previous cell, next field, send, delete, function keys, no meaning
-unfoldable pub keyDoes : Bool → ℕ → Seen
+unfoldable pub keyDoes : Bool → ℕ → Brief
 keyDoes on k =
     let s = keyed on in
-    if between 32 126 k then seen 0 1 (at 2 0 (showing (97 ∷ k ∷ 99 ∷ []) s)) [] 23
-    else if eqb k 8 then seen 0 1 (at 0 0 s) [] 23
-    else if eqb k 9 then seen 0 1 (at 2 0 s) [] 23
-    else if eqb k 127 then seen 0 1 (showing (97 ∷ 32 ∷ 99 ∷ []) s) [] 23
+    if between 32 126 k then brief 0 1 (at 2 0 (showing (97 ∷ k ∷ 99 ∷ []) s)) []
+    else if eqb k 8 then brief 0 1 (at 0 0 s) []
+    else if eqb k 9 then brief 0 1 (at 2 0 s) []
+    else if eqb k 127 then brief 0 1 (showing (97 ∷ 32 ∷ 99 ∷ []) s) []
     else if eqb k 13
-    then (if on then seen 0 1 (at 0 0 s) (det (28 ∷ 0 ∷ 0 ∷ []) ++ (97 ∷ 98 ∷ (det (39 ∷ []) ++ (99 ∷ [])))) 23 else seen 8 0 s [] 23)
-    else if between 128 143 k then (if on then seen 0 1 s (det (40 ∷ (k - 127) ∷ [])) 23 else seen 8 0 s [] 23)
-    else seen 9 0 s [] 23
+    then (if on then brief 0 1 (at 0 0 s) (det (28 ∷ 0 ∷ 0 ∷ []) ++ (97 ∷ 98 ∷ (det (39 ∷ []) ++ (99 ∷ [])))) else brief 8 0 s [])
+    else if between 128 143 k then (if on then brief 0 1 s (det (40 ∷ (k - 127) ∷ [])) else brief 8 0 s [])
+    else brief 9 0 s []
 
-abbrev keySeen : Bool → ℕ → Seen
-keySeen on k = look (called (keyed on) (key k (replicate 23 lent)))
+abbrev keySweep : String → Bool → Sweep
+keySweep title on = sweep title 23 (λ k. look (called (keyed on) (key k (replicate 23 lent)))) (λ k. freshPad) (keyDoes on)
+
+-- by the key's own tests and what it does
+abbrev keyTold : Bool → ℕ → Brief
+keyTold on k = briefly (verdict (pressTests (keyed on) k)) (keyed on) 1 (keyRan (keyed on) k)
+
+key-swept : (title : String) (on : Bool) → ready (keyed on) (replicate 23 lent) ≡ true
+    → ifNone (failures (λ k. sameBeside (keyTold on k) ((keySweep title on) .shows k)) 256) title → Everywhere (keySweep title on)
+key-swept title on r p =
+    everywhere
+    (record {
+      full = λ k. key-full (keyed on) 23 r k;
+      pad = λ k h. pad-kept (verdict (pressTests (keyed on) k)) (keyed on) 1 (keyRan (keyed on) k) refl;
+      beside = p;
+    })
+
+pub every-key-on : Everywhere (keySweep "every key, DET on" true)
+unfolding computing seeing ready passing keyDoes
+every-key-on = key-swept "every key, DET on" true refl tt
+
+pub every-key-off : Everywhere (keySweep "every key, DET off" false)
+unfolding computing seeing ready passing keyDoes
+every-key-off = key-swept "every key, DET off" false refl tt
 
 -- ---- every byte of host data at rest
 
@@ -91,10 +145,10 @@ abbrev resting : Bool → State
 resting on = modes on false (starting 3 2 false (characters "abcdef") (replicate 6 0) 2 0)
 
 -- written; CR, LF, BS; IAC begins a command; other data does nothing
-unfoldable pub dataDoes : Bool → ℕ → Seen
+unfoldable pub dataDoes : Bool → ℕ → Brief
 dataDoes on b =
     let s = resting on in
-    let leaves : State → Seen = λ t. seen 0 1 t [] 44 in
+    let leaves : State → Brief = λ t. brief 0 1 t [] in
     if between 32 126 b then leaves (at 0 1 (showing (97 ∷ 98 ∷ b ∷ characters "def") s))
     else if eqb b 13 then leaves (afterCr true (at 0 0 s))
     else if eqb b 10 then leaves (at 2 1 s)
@@ -102,8 +156,31 @@ dataDoes on b =
     else if eqb b 255 then leaves (reading Iac [] s)
     else leaves s
 
-abbrev dataSeen : Bool → ℕ → Seen
-dataSeen on b = look (called (resting on) (host (b ∷ []) (replicate 44 lent)))
+abbrev dataSweep : String → Bool → Sweep
+dataSweep title on = sweep title 44 (λ b. look (called (resting on) (host (b ∷ []) (replicate 44 lent)))) (λ b. freshPad) (dataDoes on)
+
+-- what is told of a host byte that is taken
+abbrev byteTold : State → ℕ → Brief
+byteTold s b = briefly Taken s 1 (running s (b ∷ []))
+
+data-pad : (on : Bool) (b : ℕ) → (byteTold (resting on) b) .left .session .pad ≡ freshPad
+unfolding running hostByte padAfter reader
+data-pad on b =
+    either (λ (told : Step). padAfter ((resting on) .session .frame) freshPad (told .event) ≡ freshPad) (eqb b 255) (λ e. refl) (λ e. refl)
+
+data-swept : (title : String) (on : Bool) → ready (resting on) (replicate 44 lent) ≡ true
+    → ifNone (failures (λ b. sameBeside (byteTold (resting on) b) ((dataSweep title on) .shows b)) 256) title
+    → Everywhere (dataSweep title on)
+data-swept title on r p =
+    everywhere (record { full = λ b. byte-full (resting on) 44 r b; pad = λ b h. data-pad on b; beside = p })
+
+pub every-byte-on : Everywhere (dataSweep "every byte of host data, DET on" true)
+unfolding computing seeing ready passing dataDoes
+every-byte-on = data-swept "every byte of host data, DET on" true refl tt
+
+pub every-byte-off : Everywhere (dataSweep "every byte of host data, DET off" false)
+unfolding computing seeing ready passing dataDoes
+every-byte-off = data-swept "every byte of host data, DET off" false refl tt
 
 -- ---- every value of a parameter
 
@@ -111,45 +188,111 @@ dataSeen on b = look (called (resting on) (host (b ∷ []) (replicate 44 lent)))
 abbrev small : State
 small = starting 2 1 false (characters "ab") (replicate 2 0) 0 0
 
-abbrev ended : List ℕ → Seen
-ended held = look (called (reading (InsideIac 20) held small) (host (240 ∷ []) (replicate 16 lent)))
+abbrev holding : List ℕ → State
+holding held = reading (InsideIac 20) held small
+
+-- a sentence over such commands: the row of their code, the bytes held, what is to be seen
+pub record Ending : Type 0 where
+  pub title : String
+  pub row : Row
+  pub held : ℕ → List ℕ
+  pub shows : ℕ → Brief
+
+abbrev ending : String → Row → (ℕ → List ℕ) → (ℕ → Brief) → Ending
+ending title row held shows = record { title = title; row = row; held = held; shows = shows }
+
+abbrev endSweep : Ending → Sweep
+endSweep e = sweep (e .title) 16 (λ n. look (called (holding (e .held n)) (host (240 ∷ []) (replicate 16 lent)))) (λ n. freshPad) (e .shows)
+
+-- the same with the row already found
+abbrev endRan : Row → State → Ran
+endRan row s =
+    let v = viewOf s in
+    let r = s .session .reader in
+    let h = r .held in
+    let effect = if eqb (h .count) 0 then erring v 0 TooFewParameters else judged v row h (faultOf v (row .command) (row .parameters) h) in
+    let one = applied s (readerAfter r 240) (padAfter (s .session .frame) (s .session .pad) (End 20)) effect in
+    record { state = one .state; replies = one .replies ++ []; executed = one .executed ++ [] }
+
+end-ran : (row : Row) (held : List ℕ) → rowOf (codeIn ((holding held) .session .reader .held)) ≡ listed row
+    → running (holding held) (240 ∷ []) ≡ endRan row (holding held)
+unfolding running hostByte happening reader subcommand looked
+end-ran row held e = rw e
+
+abbrev endTold : Ending → ℕ → Brief
+endTold e n = briefly Taken (holding (e .held n)) 1 (endRan (e .row) (holding (e .held n)))
+
+-- no byte held hinders the call, and the code is the row's
+pub record Ended (e : Ending) (n : ℕ) : Type 0 where
+  pub ready : ready (holding (e .held n)) (replicate 16 lent) ≡ true
+  pub found : rowOf (codeIn ((holding (e .held n)) .session .reader .held)) ≡ listed (e .row)
+
+end-swept : (e : Ending) → ((n : ℕ) → Ended e n) → ifNone (failures (λ n. sameBeside (endTold e n) ((endSweep e) .shows n)) 256) (e .title)
+    → Everywhere (endSweep e)
+unfolding padAfter
+end-swept e d p =
+    everywhere
+    (record {
+      full = λ n. byte-full (holding (e .held n)) 16 (d n .ready) 240 ∙ rw (end-ran (e .row) (e .held n) (d n .found));
+      pad = λ n h. refl;
+      beside = p;
+    })
 
 -- what it leaves and answers; an ERROR with its number
-abbrev does : (State → State) → List ℕ → Seen
-does leaves reply = seen 0 1 (leaves small) reply 16
+abbrev does : (State → State) → List ℕ → Brief
+does leaves reply = brief 0 1 (leaves small) reply
 
-abbrev errs : ℕ → ℕ → Seen
+abbrev errs : ℕ → ℕ → Brief
 errs code number = does unchanged (det (41 ∷ code ∷ number ∷ []))
 
--- ---- the sweeps
+abbrev x : Ending
+x =
+    ending "5 with every x" (row 5 MoveCursor 2 never) (λ n. 5 ∷ n ∷ 0 ∷ [])
+    (λ n. does (at (min n 1) 0) (if leb n 1 then [] else det (41 ∷ 5 ∷ 3 ∷ [])))
 
-unfoldable pub sweeps : List Sweep
-sweeps =
-    sweep "every key, DET on" (keySeen true) (keyDoes true)
-    ∷ sweep "every key, DET off" (keySeen false) (keyDoes false)
-    ∷ sweep "every byte of host data, DET on" (dataSeen true) (dataDoes true)
-    ∷ sweep "every byte of host data, DET off" (dataSeen false) (dataDoes false)
-    ∷ sweep "5 with every x" (λ n. ended (5 ∷ n ∷ 0 ∷ [])) (λ n. does (at (min n 1) 0) (if leb n 1 then [] else det (41 ∷ 5 ∷ 3 ∷ [])))
-    ∷ sweep "36 with every first map byte" (λ n. ended (36 ∷ n ∷ 0 ∷ 0 ∷ 2 ∷ []))
+pub every-x : Everywhere (endSweep x)
+unfolding computing seeing ready passing
+every-x = end-swept x (λ n. record { ready = refl; found = refl }) tt
+
+abbrev firstMap : Ending
+firstMap =
+    ending "36 with every first map byte" (row 36 FormatData 4 always) (λ n. 36 ∷ n ∷ 0 ∷ 0 ∷ 2 ∷ [])
     (λ n. if leb n 31 then does (attributed (n ∷ n ∷ [])) [] else errs 36 12)
-    ∷ sweep "36 with every second map byte" (λ n. ended (36 ∷ 9 ∷ n ∷ 0 ∷ 1 ∷ []))
+
+pub every-first-map : Everywhere (endSweep firstMap)
+unfolding computing seeing ready passing
+every-first-map = end-swept firstMap (λ n. record { ready = refl; found = refl }) tt
+
+abbrev secondMap : Ending
+secondMap =
+    ending "36 with every second map byte" (row 36 FormatData 4 always) (λ n. 36 ∷ 9 ∷ n ∷ 0 ∷ 1 ∷ [])
     (λ n. if eqb n 0 then does (attributed (9 ∷ 0 ∷ [])) [] else errs 36 12)
-    ∷ sweep "37 with every character" (λ n. ended (37 ∷ 1 ∷ n ∷ []))
+
+pub every-second-map : Everywhere (endSweep secondMap)
+unfolding computing seeing ready passing
+every-second-map = end-swept secondMap (λ n. record { ready = refl; found = refl }) tt
+
+abbrev character : Ending
+character =
+    ending "37 with every character" (row 37 Repeat 2 never) (λ n. 37 ∷ 1 ∷ n ∷ [])
     (λ n. if between 32 126 n then does (λ s. at 1 0 (showing (n ∷ characters "b") s)) [] else errs 37 11)
-    ∷ sweep "38 with every value" (λ n. ended (38 ∷ n ∷ []))
+
+pub every-character : Everywhere (endSweep character)
+unfolding computing seeing ready passing
+every-character = end-swept character (λ n. record { ready = refl; found = refl }) tt
+
+abbrev value : Ending
+value =
+    ending "38 with every value" (row 38 SuppressProtection 1 (onlyWith 253)) (λ n. 38 ∷ n ∷ [])
     (λ n.
     if eqb n 253 then does (modes true true) (det (38 ∷ 251 ∷ []))
     else if eqb n 251 then does unchanged (det (38 ∷ 254 ∷ []))
     else if between 252 254 n then does unchanged []
     else errs 38 11)
-    ∷ []
 
-sweeps-pass : SweepsPass sweeps
-unfolding computing seeing sweeps keyDoes dataDoes
-sweeps-pass = (tt, (tt, (tt, (tt, (tt, (tt, (tt, (tt, (tt, tt)))))))))
-
-pub every-byte : EachEverywhere sweeps
-every-byte = each-everywhere sweeps sweeps-pass
+pub every-value : Everywhere (endSweep value)
+unfolding computing seeing ready passing
+every-value = end-swept value (λ n. record { ready = refl; found = refl }) tt
 
 -- ---- whatever the parameters
 
@@ -179,7 +322,8 @@ pub record Negotiates (v : View) : Type 0 where
   pub do-30-small : v .frame .x3 ≡ false → leb 37 (v .frame .height * v .frame .width) ≡ false
       → negotiated v Do 30 ≡ saying v (bytes (255 ∷ 252 ∷ 30 ∷ []) ∷ [])
   pub do-30-on : v .frame .x3 ≡ true → negotiated v Do 30 ≡ quiet v
-  pub dont-30-on : v .frame .x3 ≡ true → negotiated v Dont 30 ≡ saying (withFrame v (withX3 (v .frame) false)) (bytes (255 ∷ 252 ∷ 30 ∷ []) ∷ [])
+  pub dont-30-on : v .frame .x3 ≡ true
+      → negotiated v Dont 30 ≡ saying (withFrame v (withX3 (v .frame) false)) (bytes (255 ∷ 252 ∷ 30 ∷ []) ∷ [])
   pub dont-30-off : v .frame .x3 ≡ false → negotiated v Dont 30 ≡ quiet v
   pub do-other : (option : ℕ) → eqb option 20 ≡ false → eqb option 30 ≡ false
       → negotiated v Do option ≡ saying v (bytes (255 ∷ 252 ∷ option ∷ []) ∷ [])

@@ -1,6 +1,7 @@
 pub mod Passing
 pub mod Worked
 pub mod Shut
+pub mod Ready
 pub mod Slow
 pub mod All
 pub mod Rows

@@ -2,12 +2,13 @@
 use mathlib.Core.Path.{_≡_, refl, sym, ap, ap₂, _∙_}
 use mathlib.Core.Bool.{Bool, true, false}
 use mathlib.Core.List.{List, [], _∷_, _++_}
-use Prim.Native.Nat.{ℕ, zero, suc, _<_}
+use Prim.Native.Nat.{ℕ, zero, suc, _-_, _<_}
 use Prim.Native.String.{String}
+use native.Mathlib.Nat.{sub-zero, zero-sub, suc-sub-suc}
 use native.Mathlib.Omega.{arith}
 use borrow.Author.Tests.{eqb-true}
 use lib.Dec.{eqb}
-use lib.ListN.{length, getD}
+use lib.ListN.{length, getD, drop, replicate, length-replicate}
 use Rattle.telnet.specs.declared.Phase.{Phase}
 use Rattle.telnet.specs.declared.Phase.the-variants.{Rest, Iac, Negotiating, Opening, OpeningIac, Inside, InsideIac}
 use Rattle.telnet.specs.declared.Verb.{Verb}
@@ -18,8 +19,68 @@ use Rattle.pad.specs.declared.message.Stage.the-variants.{Code, Parameter, Valu
 use Rattle.rules.specs.declared.Pad.{Pad}
 use Rattle.screen.specs.Cells.{place}
 use Rattle.words.proofs.Laws.{not-both, true-or-false, less-or-not, and-left, and-right}
-use Rattle.rules.specs.Session.{session, screen, state}
-use Rattle.rules.specs.cases.Vocabulary.{Seen, Case, flag, phaseNumbers, numbers, stageNumbers, same, samePad, sameSeen, sameAll, Fails, Passes, failures, Sweep, wrongBytes, ifNone, SweepsPass, Everywhere, observed, expected}
+use Rattle.rules.specs.declared.Refusal.{Refusal}
+use Rattle.rules.specs.Session.{Screen, State, cells, freshFrame, fresh, session, screen, state}
+use Rattle.rules.specs.Refusal.{isTaken, verdict, sizeTests}
+use Rattle.rules.specs.Operation.{
+  Ran,
+  Outcome,
+  answering,
+  unless,
+  hostRefusal,
+  hostRan,
+  hostBytes,
+  keyRefusal,
+  keyRan,
+  oneKey,
+  blank,
+  opened,
+}
+use Rattle.rules.specs.Call.{called}
+use Rattle.rules.specs.cases.Vocabulary.{
+  Seen,
+  look,
+  lent,
+  Brief,
+  brief,
+  briefly,
+  tell,
+  inFull,
+  Given,
+  heard,
+  struck,
+  callWith,
+  Trial,
+  observedIn,
+  toldIn,
+  fullIn,
+  openTold,
+  Case,
+  case,
+  opening,
+  titleOf,
+  observedOf,
+  told,
+  stated,
+  fullOf,
+  observed,
+  expected,
+  flag,
+  phaseNumbers,
+  numbers,
+  stageNumbers,
+  same,
+  samePad,
+  sameBeside,
+  sameBrief,
+  sameAll,
+  Fails,
+  Passes,
+  failures,
+  Sweep,
+  ifNone,
+  Everywhere,
+}
 
 -- ---- what is seen, from its numbers and lists
 
@@ -62,31 +123,27 @@ stage-back Code = refl
 stage-back (Parameter code) = refl
 stage-back (Value code parameter) = refl
 
-abbrev seenOf : List ℕ → Pad → List ℕ → List ℕ → List ℕ → List ℕ → Seen
-seenOf ns pad held chars attrs reply =
-    record {
-      refusal = getD ns 0 0;
-      taken = getD ns 1 0;
-      written = getD ns 2 0;
-      left = state
-          (session
-          (record {
-            width = getD ns 3 0;
-            height = getD ns 4 0;
-            cursor = place (getD ns 5 0) (getD ns 6 0);
-            det = eqb (getD ns 7 0) 1;
-            x3 = eqb (getD ns 8 0) 1;
-            suppressed = eqb (getD ns 9 0) 1;
-          })
-          (record {
-            phase = phaseOf (getD ns 13 0) (getD ns 14 0);
-            held = record { bytes = held; count = getD ns 12 0 };
-            cr = eqb (getD ns 10 0) 1;
-          })
-          pad)
-          (screen chars attrs);
-      reply = reply;
-    }
+abbrev briefOf : List ℕ → Pad → List ℕ → List ℕ → List ℕ → List ℕ → Brief
+briefOf ns pad held chars attrs replies =
+    brief (getD ns 0 0) (getD ns 1 0)
+    (state
+    (session
+    (record {
+      width = getD ns 2 0;
+      height = getD ns 3 0;
+      cursor = place (getD ns 4 0) (getD ns 5 0);
+      det = eqb (getD ns 6 0) 1;
+      x3 = eqb (getD ns 7 0) 1;
+      suppressed = eqb (getD ns 8 0) 1;
+    })
+    (record {
+      phase = phaseOf (getD ns 12 0) (getD ns 13 0);
+      held = record { bytes = held; count = getD ns 11 0 };
+      cr = eqb (getD ns 9 0) 1;
+    })
+    pad)
+    (screen chars attrs))
+    replies
 
 -- the PAD from its lists, its line's length and its message's stage
 abbrev padOf : List ℕ → List ℕ → ℕ → List ℕ → List ℕ → Pad
@@ -97,15 +154,17 @@ padOf values line len copy ns =
       message = record { stage = stageOf (getD ns 0 0) (getD ns 1 0) (getD ns 2 0); copy = record { held = copy } };
     }
 
-pad-back : (p : Pad) → padOf (p .values .held) (p .line .bytes) (p .line .len) (p .message .copy .held) (stageNumbers (p .message .stage)) ≡ p
+pad-back : (p : Pad)
+    → padOf (p .values .held) (p .line .bytes) (p .line .len) (p .message .copy .held) (stageNumbers (p .message .stage)) ≡ p
 pad-back p = rw (stage-back (p .message .stage))
 
-seen-back : (a : Seen) → let s = a .left .session in
-    seenOf (numbers a) (s .pad) (s .reader .held .bytes) (a .left .screen .chars) (a .left .screen .attrs) (a .reply) ≡ a
+brief-back : (a : Brief) → let s = a .left .session in
+    briefOf (numbers a) (s .pad) (s .reader .held .bytes) (a .left .screen .chars) (a .left .screen .attrs) (a .replies) ≡ a
 unfolding numbers
-seen-back a =
+brief-back a =
     let s = a .left .session in
-    rw (flag-back (s .frame .det), flag-back (s .frame .x3), flag-back (s .frame .suppressed), flag-back (s .reader .cr), phase-back (s .reader .phase))
+    let f = s .frame in
+    rw (flag-back (f .det), flag-back (f .x3), flag-back (f .suppressed), flag-back (s .reader .cr), phase-back (s .reader .phase))
 
 -- ---- equal where the tests pass
 
@@ -127,41 +186,90 @@ pad-equal p q len e =
     let stage = same-equal _ _ (and-right (same (p .message .copy .held) (q .message .copy .held)) _ e2) in
     sym (pad-back p) ∙ rw (values, line, len, copy, stage) (pad-back q)
 
-len-equal : (a b : Seen) → numbers a ≡ numbers b → a .left .session .pad .line .len ≡ b .left .session .pad .line .len
+len-equal : (a b : Brief) → numbers a ≡ numbers b → a .left .session .pad .line .len ≡ b .left .session .pad .line .len
 unfolding numbers
-len-equal a b e = ap (λ ns. getD ns 11 0) e
+len-equal a b e = ap (λ ns. getD ns 10 0) e
 
-seen-equal : (a b : Seen) → sameSeen a b ≡ true → a ≡ b
-unfolding sameSeen
-seen-equal a b e =
-    let e0 = and-right (same (numbers a) (numbers b)) _ e in
-    let e1 = and-right (samePad (a .left .session .pad) (b .left .session .pad)) _ e0 in
+beside-equal : (a b : Brief) → a .left .session .pad ≡ b .left .session .pad → sameBeside a b ≡ true → a ≡ b
+unfolding sameBeside
+beside-equal a b pad e =
+    let e1 = and-right (same (numbers a) (numbers b)) _ e in
     let e2 = and-right (same (a .left .session .reader .held .bytes) (b .left .session .reader .held .bytes)) _ e1 in
     let e3 = and-right (same (a .left .screen .chars) (b .left .screen .chars)) _ e2 in
     let e4 = and-right (same (a .left .screen .attrs) (b .left .screen .attrs)) _ e3 in
     let p = same-equal (numbers a) (numbers b) (and-left _ _ e) in
-    let p0 = pad-equal _ _ (len-equal a b p) (and-left _ _ e0) in
     let p1 = same-equal _ _ (and-left _ _ e1) in
     let p2 = same-equal _ _ (and-left _ _ e2) in
     let p3 = same-equal _ _ (and-left _ _ e3) in
-    let p4 = same-equal (a .reply) (b .reply) e4 in
-    sym (seen-back a) ∙ rw (p, p0, p1, p2, p3, p4) (seen-back b)
+    let p4 = same-equal (a .replies) (b .replies) e4 in
+    sym (brief-back a) ∙ rw (p, pad, p1, p2, p3, p4) (brief-back b)
 
-all-equal : (xs ys : List Seen) → sameAll xs ys ≡ true → xs ≡ ys
+numbers-equal : (a b : Brief) → sameBeside a b ≡ true → numbers a ≡ numbers b
+unfolding sameBeside
+numbers-equal a b e = same-equal (numbers a) (numbers b) (and-left _ _ e)
+
+brief-equal : (a b : Brief) → sameBrief a b ≡ true → a ≡ b
+unfolding sameBrief
+brief-equal a b e =
+    let beside = and-left _ _ e in
+    beside-equal a b (pad-equal _ _ (len-equal a b (numbers-equal a b beside)) (and-right (sameBeside a b) _ e)) beside
+
+all-equal : (xs ys : List Brief) → sameAll xs ys ≡ true → xs ≡ ys
 unfolding sameAll
 all-equal [] [] e = refl
 all-equal [] (y ∷ ys) e = not-both false e refl
 all-equal (x ∷ xs) [] e = not-both false e refl
-all-equal (x ∷ xs) (y ∷ ys) e = ap₂ _∷_ (seen-equal x y (and-left _ _ e)) (all-equal xs ys (and-right (sameSeen x y) _ e))
+all-equal (x ∷ xs) (y ∷ ys) e = ap₂ _∷_ (brief-equal x y (and-left _ _ e)) (all-equal xs ys (and-right (sameBrief x y) _ e))
 
 -- what fails cannot pass
 fails-not : {A : Type 0} {title : String} → Fails title → A
 fails-not = elim [ ]
 
-case-equal : (c : Case) → (if sameAll (c .observed) (c .expected) then Unit {0} else Fails (c .title)) → c .observed ≡ c .expected
-case-equal c p =
-    true-or-false (sameAll (c .observed) (c .expected)) (λ e. all-equal _ _ e)
-    (λ e. let q : Fails (c .title) = rw e at p in fails-not q)
+told-stated : (c : Case) → (if sameAll (told c) (stated c) then Unit {0} else Fails (titleOf c)) → told c ≡ stated c
+told-stated c p =
+    true-or-false (sameAll (told c) (stated c)) (λ e. all-equal _ _ e)
+    (λ e. let q : Fails (titleOf c) = rw e at p in fails-not q)
+
+-- ---- what is told, in full, is what is seen
+
+drop-lent : (i n : ℕ) → drop i (replicate n lent) ≡ replicate (n - i) lent
+drop-lent zero n = rw (sub-zero n)
+drop-lent (suc i) zero = rw (zero-sub (suc i))
+drop-lent (suc i) (suc n) = drop-lent i n ∙ rw (suc-sub-suc n i)
+
+ends-full : (r : Refusal) (s : State) (room taken : ℕ) (ran : Ran)
+    → look (unless r s (replicate room lent) (answering taken ran (replicate room lent))) ≡ inFull room (briefly r s taken ran)
+unfolding unless
+ends-full r s room taken ran =
+    true-or-false (isTaken r) (λ e. rw e (rw (drop-lent (length (ran .replies)) room))) (λ e. rw e (rw (sub-zero room)))
+
+-- a call
+pub call-full : (s : State) (g : Given) (room : ℕ) → look (called s (callWith g room)) ≡ inFull room (tell s g room)
+unfolding called hostBytes oneKey tell
+call-full s (heard input) room =
+    ends-full (hostRefusal s (replicate room lent)) s room _ (hostRan s (replicate room lent) input) ∙ rw (length-replicate room lent)
+call-full s (struck k) room = ends-full (keyRefusal s (replicate room lent) k) s room 1 (keyRan s k)
+
+trials-full : (s : State) (ts : List Trial) → observedIn s ts ≡ fullIn ts (toldIn s ts)
+unfolding observedIn toldIn fullIn
+trials-full s [] = refl
+trials-full s (t ∷ ts) =
+    let one = call-full s (t .given) (t .room) in
+    ap₂ _∷_ one (ap (λ (o : Seen). observedIn (o .left) ts) one ∙ trials-full _ ts)
+
+-- an open
+open-full : (m n : ℕ) (b : Screen) → look (opened m n b) ≡ inFull 0 (openTold m n b)
+unfolding opened
+open-full m n b =
+    let done : Ran = record { state = state (fresh m n) (blank (cells (freshFrame m n))); replies = []; executed = [] } in
+    ends-full (verdict (sizeTests (freshFrame m n) b)) (state (fresh 0 0) b) 0 0 done
+
+case-full : (c : Case) → observedOf c ≡ fullOf c (told c)
+case-full (case title s ts) = trials-full s ts
+case-full (opening title m n b refusal s) = ap (λ o. o ∷ []) (open-full m n b)
+
+case-equal : (c : Case) → (if sameAll (told c) (stated c) then Unit {0} else Fails (titleOf c)) → observedOf c ≡ fullOf c (stated c)
+case-equal c p = case-full c ∙ ap (fullOf c) (told-stated c p)
 
 pub each-equal : (cs : List Case) → Passes cs → observed cs ≡ expected cs
 each-equal [] p = refl
@@ -180,18 +288,23 @@ below-passes test (suc n) e k h =
     (λ t. less-or-not k n (λ l. below-passes test n (rw t at e) k l) (λ l. let q : k ≡ n = omega arith in rw q t))
     (λ t. absurd (omega (arith, ap length (rw t at e))))
 
--- a sweep that passes shows with each byte what is expected of it
+-- two tests that agree fail alike
+pub failures-same : (f g : ℕ → Bool) (n : ℕ) → ((k : ℕ) → f k ≡ g k) → failures f n ≡ failures g n
+unfolding failures
+failures-same f g zero e = refl
+failures-same f g (suc n) e = rw (e n, failures-same f g n e)
+
 none-wrong : (ns : List ℕ) (title : String) → ifNone ns title → ns ≡ []
 none-wrong [] title p = refl
 none-wrong (n ∷ ns) title p = fails-not p
 
-sweep-holds : (w : Sweep) → ifNone (wrongBytes w) (w .title) → Everywhere w
-sweep-holds w p n h = seen-equal _ _ (below-passes _ 256 (none-wrong (wrongBytes w) (w .title) p) n h)
+-- A sweep may go by what is told once some tests have been passed. Where that leaves the PAD that is stated, the rest is compared.
+pub record Swept (w : Sweep) (by : ℕ → Brief) : Type 0 where
+  pub full : (n : ℕ) → w .seen n ≡ inFull (w .room) (by n)
+  pub pad : (n : ℕ) → n < 256 → (by n) .left .session .pad ≡ (w .shows n) .left .session .pad
+  pub beside : ifNone (failures (λ n. sameBeside (by n) (w .shows n)) 256) (w .title)
 
-abbrev pub EachEverywhere : List Sweep → Type 0
-EachEverywhere [] = Unit {0}
-EachEverywhere (w ∷ ws) = Everywhere w × EachEverywhere ws
-
-pub each-everywhere : (ws : List Sweep) → SweepsPass ws → EachEverywhere ws
-each-everywhere [] p = tt
-each-everywhere (w ∷ ws) p = (sweep-holds w (p .0), each-everywhere ws (p .1))
+pub everywhere : {w : Sweep} {by : ℕ → Brief} → Swept w by → Everywhere w
+everywhere {w} s n h =
+    s .full n
+    ∙ ap (inFull (w .room)) (beside-equal _ _ (s .pad n h) (below-passes _ 256 (none-wrong _ (w .title) (s .beside)) n h))

@@ -1,5 +1,5 @@
 -- Host bytes one after the other: a run of two inputs, calls that take all they are offered, and a loop over the input.
-use mathlib.Core.Path.{_≡_, refl, ap, _∙_}
+use mathlib.Core.Path.{_≡_, refl, sym, ap, ap₂, _∙_}
 use mathlib.Core.List.{List, [], _∷_, _++_, append-assoc}
 use Prim.Native.Nat.{ℕ, suc, _+_, _-_, _≤_, _<_}
 use native.Mathlib.Numerals.{add-one}
@@ -12,11 +12,15 @@ use Rattle.words.proofs.Laws.{either}
 use Rattle.rules.specs.declared.Refusal.the-variants.{Taken}
 use Rattle.rules.specs.Session.{State, replyRoom}
 use Rattle.rules.specs.Refusal.{isTaken}
+use Rattle.rules.specs.Effect.{Executed}
 use Rattle.rules.specs.Operation.{Ran, hostByte, running, answering, unless, takenOf, hostRefusal, hostBytes}
 use Rattle.rules.specs.Call.{host, left, executedBy}
 use Rattle.rules.proofs.Calls.{repliesIn}
 use Rattle.rules.proofs.Sound.{Sound, sound-byte, sound-of, passes}
 use Rattle.rules.proofs.Room.{room-is, room-byte}
+
+abbrev ran : State → List ℕ → List Executed → Ran
+ran s replies executed = record { state = s; replies = replies; executed = executed }
 
 -- a run, and another from where it ended
 abbrev pub followed : Ran → Ran → Ran
@@ -27,7 +31,14 @@ pub running-append : (s : State) (xs ys : List ℕ)
     → running s (xs ++ ys) ≡ followed (running s xs) (running ((running s xs) .state) ys)
 unfolding running
 running-append s [] ys = refl
-running-append s (x ∷ xs) ys = rw (running-append ((hostByte s x) .state) xs ys) (simp append-assoc)
+running-append s (x ∷ xs) ys =
+    let one = hostByte s x in
+    let rest = running (one .state) xs in
+    let last = running (rest .state) ys in
+    ap (followed one) (running-append (one .state) xs ys)
+    ∙ ap₂ (λ replies executed. ran (last .state) replies executed)
+    (sym (append-assoc (one .replies) (rest .replies) (last .replies)))
+    (sym (append-assoc (one .executed) (rest .executed) (last .executed)))
 
 -- ---- all is taken
 

@@ -11,9 +11,32 @@ use Rattle.telnet.specs.declared.Verb.the-variants.{Do}
 use Rattle.rules.specs.Session.{State, screen}
 use Rattle.rules.specs.Refusal.{numberOf}
 use Rattle.rules.specs.Operation.{blank, opened}
-use Rattle.rules.specs.Call.{host, key}
 use Rattle.rules.specs.cases.Computing.{computing}
-use Rattle.rules.specs.cases.Vocabulary.{Case, Trial, Passes, characters, case, opening, starting, at, modes, reading, afterCr, showing, attributed, unchanged, see, hostTrial, keyTrial, refusedTrial, observed, expected, seeing}
+use Rattle.rules.specs.cases.Vocabulary.{
+  Case,
+  Trial,
+  Passes,
+  characters,
+  case,
+  opening,
+  starting,
+  at,
+  modes,
+  reading,
+  afterCr,
+  showing,
+  attributed,
+  unchanged,
+  see,
+  hostTrial,
+  keyTrial,
+  refusedTrial,
+  heard,
+  struck,
+  observed,
+  expected,
+  seeing,
+}
 use Rattle.rules.proofs.Passing.{each-equal, all-pass}
 -- the worked forms are checked first
 use Rattle.rules.proofs.Worked.{worked}
@@ -120,7 +143,7 @@ abbrev deletes : ℕ → ℕ → String → Trial
 deletes x y text = keyTrial 58 127 (see x y text) []
 
 abbrev refuses : ℕ → ℕ → ℕ → Trial
-refuses number room k = refusedTrial number room (key k)
+refuses number room k = refusedTrial number room (struck k)
 
 -- each key in turn: written in the one cell, the cursor having nowhere to go; or refused
 abbrev written : String → List Trial
@@ -131,7 +154,7 @@ refused keys = map (λ k. refuses 7 9 k) (characters keys)
 
 -- with this room host bytes, and a key without meaning, are both refused with this number
 abbrev both : String → ℕ → ℕ → State → Case
-both title number room s = case title s (refusedTrial number room (host (characters "x")) ∷ refuses number room 1 ∷ [])
+both title number room s = case title s (refusedTrial number room (heard (characters "x")) ∷ refuses number room 1 ∷ [])
 
 -- keys that are refused, one after the other: the number, the room, the key
 abbrev denied : String → State → List (ℕ × ℕ × ℕ) → Case
@@ -449,7 +472,7 @@ refusals =
     ∷ case "bytes held at rest are not the next command's" (holds (replicate 6 1))
     (reads (det (11 ∷ [])) (λ s. reading Rest [] (at 3 0 s)) [] ∷ [])
     ∷ form "reply room 58 accepted, 57 refused 5" 2 0
-    (hears (det (17 ∷ [])) (det (18 ∷ 2 ∷ 0 ∷ [])) ∷ refusedTrial 5 57 (host (det (17 ∷ []))) ∷ [])
+    (hears (det (17 ∷ [])) (det (18 ∷ 2 ∷ 0 ∷ [])) ∷ refusedTrial 5 57 (heard (det (17 ∷ []))) ∷ [])
     ∷ []
 
 pub refusals-pass : Passes refusals

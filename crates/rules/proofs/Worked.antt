@@ -6,9 +6,25 @@ use Prim.Native.Nat.{ℕ}
 use Prim.Native.String.{String}
 use lib.ListN.{length, replicate}
 use Rattle.rules.specs.Session.{State}
-use Rattle.rules.specs.Call.{key}
 use Rattle.rules.specs.cases.Computing.{computing}
-use Rattle.rules.specs.cases.Vocabulary.{Case, Trial, characters, case, starting, at, unchanged, see, hostTrial, keyTrial, refusedTrial, observed, expected, Passes, seeing}
+use Rattle.rules.specs.cases.Vocabulary.{
+  Case,
+  Trial,
+  characters,
+  case,
+  starting,
+  at,
+  unchanged,
+  see,
+  hostTrial,
+  keyTrial,
+  refusedTrial,
+  struck,
+  observed,
+  expected,
+  Passes,
+  seeing,
+}
 use Rattle.rules.proofs.Passing.{each-equal}
 
 -- Form F: 8 by 2, "WT 70 #4" over "UNIT mg "; "70 " and "mg " have attribute 0, the rest 8. DET is on. The reply room is 114.
@@ -39,7 +55,7 @@ forms =
     ∷ [])
     ∷ formF "P4 move cursor" 3 0 (bytes (0xff ∷ 0xfa ∷ 0x14 ∷ 0x05 ∷ 0x07 ∷ 0x01 ∷ 0xff ∷ 0xf0 ∷ []) (at 7 1) [] ∷ [])
     ∷ formF "P5 host text on a guarded cell is dropped" 6 0 (bytes (characters "A") unchanged [] ∷ [])
-    ∷ formF "P5 typed on a guarded cell, refusal 6" 6 0 (refusedTrial 6 114 (key 0x41) ∷ [])
+    ∷ formF "P5 typed on a guarded cell, refusal 6" 6 0 (refusedTrial 6 114 (struck 0x41) ∷ [])
     ∷ formF "P6 typed, on to the next open cell" 5 0 (keyTrial 114 0x38 (see 5 1 "WT 708#4UNIT mg ") [] ∷ [])
     ∷ formF "P6 from the host, on to the next cell" 5 0 (bytes (characters "8") (see 6 0 "WT 708#4UNIT mg ") [] ∷ [])
     ∷ formF "P7 repeat" 4 0 (bytes (0xff ∷ 0xfa ∷ 0x14 ∷ 0x25 ∷ 0x03 ∷ 0x78 ∷ 0xff ∷ 0xf0 ∷ []) (see 6 0 "WT 7xx#4UNIT mg ") [] ∷ [])

@@ -7,7 +7,7 @@ use Prim.Native.Char.{code}
 use Prim.Native.String.{String}
 use Prim.Native.String as string
 use lib.Dec.{eqb}
-use lib.ListN.{length, replicate}
+use lib.ListN.{length, take, replicate}
 use Rattle.telnet.specs.declared.Phase.{Phase}
 use Rattle.telnet.specs.declared.Phase.the-variants.{Rest, Iac, Negotiating, Opening, OpeningIac, Inside, InsideIac}
 use Rattle.telnet.specs.Reader.{verbCode}
@@ -18,9 +18,10 @@ use Rattle.screen.specs.Cells.{place}
 use Rattle.rules.specs.declared.Reader.{Reader}
 use Rattle.rules.specs.declared.Frame.{Frame}
 use Rattle.rules.specs.declared.Pad.{Pad}
-use Rattle.rules.specs.Session.{Screen, State, freshPad, session, screen, state}
-use Rattle.rules.specs.Refusal.{numberOf}
-use Rattle.rules.specs.Operation.{Outcome, opened}
+use Rattle.rules.specs.declared.Refusal.{Refusal}
+use Rattle.rules.specs.Session.{Screen, State, cells, freshFrame, fresh, freshPad, session, screen, state}
+use Rattle.rules.specs.Refusal.{numberOf, isTaken, verdict, sizeTests}
+use Rattle.rules.specs.Operation.{Ran, Outcome, running, takenOf, hostRefusal, keyRefusal, keyRan, blank, opened}
 use Rattle.rules.specs.Call.{Call, host, key, called, left}
 
 -- the characters of a text
@@ -47,65 +48,126 @@ look o =
       reply = o .reply;
     }
 
--- ---- trials
-
 -- every byte of a reply buffer as it is lent
 abbrev pub lent : ℕ
 lent = 7
 
--- A call, given a reply buffer of so many bytes. Then what is to be seen: the refusal, the bytes taken, the state that is left by the
--- one before the call, the bytes replied.
+-- ---- the same in brief: of the reply buffer only the bytes replied
+
+pub record Brief : Type 0 where
+  pub refusal : ℕ
+  pub taken : ℕ
+  pub left : State
+  pub replies : List ℕ
+
+abbrev pub brief : ℕ → ℕ → State → List ℕ → Brief
+brief refusal taken s replies = record { refusal = refusal; taken = taken; left = s; replies = replies }
+
+-- a call that is refused, or else done
+abbrev pub briefly : Refusal → State → ℕ → Ran → Brief
+briefly r s taken ran = if isTaken r then brief 0 taken (ran .state) (ran .replies) else brief (numberOf r) 0 s []
+
+-- in full, with a reply buffer of so many bytes: behind the bytes replied it is as it was lent
+abbrev pub inFull : ℕ → Brief → Seen
+inFull room b =
+    record {
+      refusal = b .refusal;
+      taken = b .taken;
+      written = length (b .replies);
+      left = b .left;
+      reply = b .replies ++ replicate (room - length (b .replies)) lent;
+    }
+
+-- ---- trials
+
+-- host bytes, or a key
+pub data Given : Type 0 where
+  heard : List ℕ → Given
+  struck : ℕ → Given
+
+-- the call, given a reply buffer of so many bytes
+abbrev pub callWith : Given → ℕ → Call
+callWith (heard input) room = host input (replicate room lent)
+callWith (struck k) room = key k (replicate room lent)
+
+-- A call, by what it is given and the bytes of its reply buffer. Then what is to be seen: the refusal, the bytes taken, the state that is
+-- left by the one before the call, the bytes replied.
 pub record Trial : Type 0 where
-  pub call : List ℕ → Call
+  pub given : Given
   pub room : ℕ
   pub refusal : ℕ
   pub taken : ℕ
   pub leaves : State → State
   pub replies : List ℕ
 
--- what is to be seen of a call: behind the bytes replied the buffer is as it was lent
-abbrev pub seen : ℕ → ℕ → State → List ℕ → ℕ → Seen
-seen refusal taken s replies room =
-    record {
-      refusal = refusal;
-      taken = taken;
-      written = length replies;
-      left = s;
-      reply = replies ++ replicate (room - length replies) lent;
-    }
-
-unfoldable pub expectedIn : State → List Trial → List Seen
-expectedIn s [] = []
-expectedIn s (t ∷ ts) = seen (t .refusal) (t .taken) (t .leaves s) (t .replies) (t .room) ∷ expectedIn (t .leaves s) ts
-
 unfoldable pub observedIn : State → List Trial → List Seen
 observedIn s [] = []
-observedIn s (t ∷ ts) = let o = called s (t .call (replicate (t .room) lent)) in look o ∷ observedIn (left o) ts
+observedIn s (t ∷ ts) = let o = called s (callWith (t .given) (t .room)) in look o ∷ observedIn (left o) ts
+
+-- what is told
+unfoldable pub tell : State → Given → ℕ → Brief
+tell s (heard input) room =
+    let taken = takenOf s room input in
+    briefly (hostRefusal s (replicate room lent)) s taken (running s (take taken input))
+tell s (struck k) room = briefly (keyRefusal s (replicate room lent) k) s 1 (keyRan s k)
+
+unfoldable pub toldIn : State → List Trial → List Brief
+toldIn s [] = []
+toldIn s (t ∷ ts) = let b = tell s (t .given) (t .room) in b ∷ toldIn (b .left) ts
+
+-- what is stated
+
+unfoldable pub statedIn : State → List Trial → List Brief
+statedIn s [] = []
+statedIn s (t ∷ ts) = let after = t .leaves s in brief (t .refusal) (t .taken) after (t .replies) ∷ statedIn after ts
+
+unfoldable pub fullIn : List Trial → List Brief → List Seen
+fullIn [] bs = []
+fullIn (t ∷ ts) [] = []
+fullIn (t ∷ ts) (b ∷ bs) = inFull (t .room) b ∷ fullIn ts bs
 
 -- ---- cases
 
-pub record Case : Type 0 where
-  pub title : String
-  pub observed : List Seen
-  pub expected : List Seen
+-- what is told of an open
+abbrev pub openTold : ℕ → ℕ → Screen → Brief
+openTold m n b =
+    let f = freshFrame m n in
+    let done : Ran = record { state = state (fresh m n) (blank (cells f)); replies = []; executed = [] } in
+    briefly (verdict (sizeTests f b)) (state (fresh 0 0) b) 0 done
 
-abbrev pub case : String → State → List Trial → Case
-case title s trials = record { title = title; observed = observedIn s trials; expected = expectedIn s trials }
+pub data Case : Type 0 where
+  case : String → State → List Trial → Case  -- the title, the start, the calls
+  opening : String → ℕ → ℕ → Screen → ℕ → State → Case  -- an open of m by n with these buffers: the refusal, and what is left
 
--- an open of m by n with these buffers: the refusal, and what is left
-abbrev pub opening : String → ℕ → ℕ → Screen → ℕ → State → Case
-opening title m n b refusal s =
-    record { title = title; observed = look (opened m n b) ∷ []; expected = seen refusal 0 s [] 0 ∷ [] }
+abbrev pub titleOf : Case → String
+titleOf (case title s ts) = title
+titleOf (opening title m n b refusal s) = title
 
-abbrev pub expected : List Case → List (List Seen)
-expected cases = map (λ c. c .expected) cases
+abbrev pub observedOf : Case → List Seen
+observedOf (case title s ts) = observedIn s ts
+observedOf (opening title m n b refusal s) = look (opened m n b) ∷ []
+
+abbrev pub told : Case → List Brief
+told (case title s ts) = toldIn s ts
+told (opening title m n b refusal s) = openTold m n b ∷ []
+
+abbrev pub stated : Case → List Brief
+stated (case title s ts) = statedIn s ts
+stated (opening title m n b refusal s) = brief refusal 0 s [] ∷ []
+
+abbrev pub fullOf : Case → List Brief → List Seen
+fullOf (case title s ts) bs = fullIn ts bs
+fullOf (opening title m n b refusal s) bs = map (λ b. inFull 0 b) bs
 
 abbrev pub observed : List Case → List (List Seen)
-observed cases = map (λ c. c .observed) cases
+observed cases = map (λ c. observedOf c) cases
+
+abbrev pub expected : List Case → List (List Seen)
+expected cases = map (λ c. fullOf c (stated c)) cases
 
 -- ---- a case that fails is named by its title
 
--- what is seen but for its lists, as numbers
+-- what is told but for its lists, as numbers
 abbrev pub flag : Bool → ℕ
 flag true = 1
 flag false = 0
@@ -119,12 +181,12 @@ phaseNumbers OpeningIac = 4 ∷ 0 ∷ []
 phaseNumbers (Inside option) = 5 ∷ option ∷ []
 phaseNumbers (InsideIac option) = 6 ∷ option ∷ []
 
-unfoldable pub numbers : Seen → List ℕ
-numbers o =
-    let f = o .left .session .frame in
-    let r = o .left .session .reader in
-    o .refusal ∷ o .taken ∷ o .written ∷ f .width ∷ f .height ∷ f .cursor .x .0 ∷ f .cursor .y .0
-    ∷ flag (f .det) ∷ flag (f .x3) ∷ flag (f .suppressed) ∷ flag (r .cr) ∷ o .left .session .pad .line .len ∷ r .held .count
+unfoldable pub numbers : Brief → List ℕ
+numbers b =
+    let f = b .left .session .frame in
+    let r = b .left .session .reader in
+    b .refusal ∷ b .taken ∷ f .width ∷ f .height ∷ f .cursor .x .0 ∷ f .cursor .y .0
+    ∷ flag (f .det) ∷ flag (f .x3) ∷ flag (f .suppressed) ∷ flag (r .cr) ∷ b .left .session .pad .line .len ∷ r .held .count
     ∷ phaseNumbers (r .phase)
 
 unfoldable pub stageNumbers : Stage → List ℕ
@@ -145,56 +207,58 @@ samePad p q =
     && (same (p .message .copy .held) (q .message .copy .held)
     && same (stageNumbers (p .message .stage)) (stageNumbers (q .message .stage))))
 
-unfoldable pub sameSeen : Seen → Seen → Bool
-sameSeen a b =
+-- all but the PAD's lists and its half-read message
+unfoldable pub sameBeside : Brief → Brief → Bool
+sameBeside a b =
     same (numbers a) (numbers b)
-    && (samePad (a .left .session .pad) (b .left .session .pad)
     && (same (a .left .session .reader .held .bytes) (b .left .session .reader .held .bytes)
     && (same (a .left .screen .chars) (b .left .screen .chars)
-    && (same (a .left .screen .attrs) (b .left .screen .attrs) && same (a .reply) (b .reply)))))
+    && (same (a .left .screen .attrs) (b .left .screen .attrs) && same (a .replies) (b .replies))))
 
-unfoldable pub sameAll : List Seen → List Seen → Bool
+unfoldable pub sameBrief : Brief → Brief → Bool
+sameBrief a b = sameBeside a b && samePad (a .left .session .pad) (b .left .session .pad)
+
+unfoldable pub sameAll : List Brief → List Brief → Bool
 sameAll [] [] = true
 sameAll [] (y ∷ ys) = false
 sameAll (x ∷ xs) [] = false
-sameAll (x ∷ xs) (y ∷ ys) = sameSeen x y && sameAll xs ys
+sameAll (x ∷ xs) (y ∷ ys) = sameBrief x y && sameAll xs ys
 
 -- no proof of this can be given, and the checker says for which title it wants one
 pub data Fails (title : String) : Type 0 where
 
 abbrev pub Passes : List Case → Type 0
 Passes [] = Unit {0}
-Passes (c ∷ cs) = (if sameAll (c .observed) (c .expected) then Unit {0} else Fails (c .title)) × Passes cs
+Passes (c ∷ cs) = (if sameAll (told c) (stated c) then Unit {0} else Fails (titleOf c)) × Passes cs
 
 -- the numbers below n that fail a test
 unfoldable pub failures : (ℕ → Bool) → ℕ → List ℕ
 failures test zero = []
 failures test (suc n) = let rest = failures test n in if test n then rest else n ∷ rest
 
--- ---- sweeps: a sentence over all bytes, what is seen with each and what is to be seen
+-- ---- sweeps: a sentence over all bytes, what is seen with each, with a reply buffer of so many bytes, and what is stated
 
 pub record Sweep : Type 0 where
   pub title : String
+  pub room : ℕ
   pub seen : ℕ → Seen
-  pub shows : ℕ → Seen
+  pub shows : ℕ → Brief
 
-abbrev pub sweep : String → (ℕ → Seen) → (ℕ → Seen) → Sweep
-sweep title seen shows = record { title = title; seen = seen; shows = shows }
+abbrev pub leaving : Pad → Brief → Brief
+leaving p b =
+    let s = b .left .session in
+    brief (b .refusal) (b .taken) (state (session (s .frame) (s .reader) p) (b .left .screen)) (b .replies)
 
--- the bytes that show something else
-abbrev pub wrongBytes : Sweep → List ℕ
-wrongBytes w = failures (λ n. sameSeen (w .seen n) (w .shows n)) 256
+-- the PAD that each leaves stands beside the rest
+abbrev pub sweep : String → ℕ → (ℕ → Seen) → (ℕ → Pad) → (ℕ → Brief) → Sweep
+sweep title room seen pad shows = record { title = title; room = room; seen = seen; shows = λ n. leaving (pad n) (shows n) }
 
 abbrev pub ifNone : List ℕ → String → Type 0
 ifNone [] title = Unit {0}
 ifNone (n ∷ ns) title = Fails title
 
-abbrev pub SweepsPass : List Sweep → Type 0
-SweepsPass [] = Unit {0}
-SweepsPass (w ∷ ws) = ifNone (wrongBytes w) (w .title) × SweepsPass ws
-
 abbrev pub Everywhere : Sweep → Type 0
-Everywhere w = (n : ℕ) → n < 256 → w .seen n ≡ w .shows n
+Everywhere w = (n : ℕ) → n < 256 → w .seen n ≡ inFull (w .room) (w .shows n)
 
 -- ---- states
 
@@ -234,8 +298,8 @@ afterCr cr s =
     let r = s .session .reader in
     state (session (s .session .frame) (record { phase = r .phase; held = r .held; cr = cr }) (s .session .pad)) (s .screen)
 
-abbrev pub editing : Bool → State → State
-editing x3 s =
+abbrev pub x3Switched : Bool → State → State
+x3Switched x3 s =
     let f = s .session .frame in
     state
     (session (framed (f .width) (f .height) (f .cursor .x .0) (f .cursor .y .0) (f .det) x3 (f .suppressed))
@@ -262,15 +326,15 @@ see x y text s = at x y (showing (characters text) s)
 
 abbrev pub hostTrial : ℕ → List ℕ → ℕ → (State → State) → List ℕ → Trial
 hostTrial room input taken leaves replies =
-    record { call = host input; room = room; refusal = 0; taken = taken; leaves = leaves; replies = replies }
+    record { given = heard input; room = room; refusal = 0; taken = taken; leaves = leaves; replies = replies }
 
 abbrev pub keyTrial : ℕ → ℕ → (State → State) → List ℕ → Trial
-keyTrial room k leaves replies = record { call = key k; room = room; refusal = 0; taken = 1; leaves = leaves; replies = replies }
+keyTrial room k leaves replies = record { given = struck k; room = room; refusal = 0; taken = 1; leaves = leaves; replies = replies }
 
-abbrev pub refusedTrial : ℕ → ℕ → (List ℕ → Call) → Trial
-refusedTrial number room call = record { call = call; room = room; refusal = number; taken = 0; leaves = unchanged; replies = [] }
+abbrev pub refusedTrial : ℕ → ℕ → Given → Trial
+refusedTrial number room given = record { given = given; room = room; refusal = number; taken = 0; leaves = unchanged; replies = [] }
 
 -- names what a proof about cases computes with, beside the rules
 unfoldable pub seeing : ℕ
-unfolding characters expectedIn observedIn phaseNumbers numbers stageNumbers same samePad sameSeen sameAll failures
+unfolding characters tell toldIn statedIn phaseNumbers numbers stageNumbers same samePad sameBeside sameBrief sameAll failures
 seeing = 0

@@ -21,7 +21,10 @@ host-text-spec =
     Texted attrs joins cr bytes frame chars₀ at (placed frame cursor) chars × (length chars ≡ length chars₀))
     (λ frame joins cr bytes chars₀ attrs cursor₀ at₀ chars cursor at. length bytes - at)
     (λ c. let a = c .before .before .before .before .args in (texted-none _ (a .joins) (a .cr) (a .bytes .now) _ _, refl))
-    (λ c. search needs) (λ c κs. search needs) (λ c κs. search needs) (λ c κs. search needs) (λ c. search needs) (λ c. search needs)
+    (λ c. search needs) (λ c κs. search needs) (λ c κs. search needs) (λ c κs. search needs)
+    (λ c. let l = c .before .before .before .before .before in
+    search (needs, l .loop-test .taken, l .before .before .before .before .before .before .good .1 .1 .1 .0))
+    (λ c. search needs)
     (λ c. let p = c .before .before in
     let m = p .before in
     let l = m .before .before in (
@@ -50,8 +53,7 @@ host-text-spec =
       omega arith,
       n .count-characters .ensures .0,
       each-row
-          (each-two (passing (p .is-printable .ensures) (t .before .if1 .left))
-          (t .character-at .ensures (not-false _ (n .before .if2 .left)) .1))
+          (each-two (passing (p .is-printable .ensures) (t .before .if1 .left)) (t .character-at .ensures (not-false _ (n .before .if2 .left)) .1))
           (n .count-characters .ensures .1),
     ))
     (λ c. omega (arith, c .before .before .before .before .before .before .before .before .before .before .before .loop-test .taken))

@@ -3,9 +3,9 @@
  *     WT 70 #4
  *     UNIT mg
  *
- * with the weight "70 " and the unit "mg " open and all else protected. The operator deletes a
- * character of the weight, and sends the form. Status 1 where a call answers something else than
- * it should. */
+ * with the weight "70 " and the unit "mg " open and all else protected; before that it sends its
+ * facility maps. The operator deletes a character of the weight, and sends the form. Status 1
+ * where a call answers something else than it should. */
 #include <stdio.h>
 #include <stdlib.h>
 
@@ -20,8 +20,15 @@ static uint8_t attrs[CELLS];
 static uint8_t session[DET_SESSION_LENGTH];
 static uint8_t reply[DET_REPLY_ROOM(WIDTH, HEIGHT)];
 
+static const uint8_t negotiate[] = {
+    255, 253, 20,                             /* DO 20 */
+    255, 250, 20, 1, 0x7e, 255, 240,          /* what the host can do: EDIT FACILITIES */
+    255, 250, 20, 2, 0x1f, 255, 240,          /* ERASE FACILITIES */
+    255, 250, 20, 3, 0x3f, 255, 240,          /* TRANSMIT FACILITIES */
+    255, 250, 20, 4, 0x90, 0x79, 255, 240     /* FORMAT FACILITIES, two bytes */
+};
+
 static const uint8_t paint[] = {
-    255, 253, 20,                                       /* DO 20 */
     'W', 'T', ' ', '7', '0', ' ', '#', '4',             /* text */
     'U', 'N', 'I', 'T', ' ', 'm', 'g', ' ',
     255, 250, 20, 5, 0, 0, 255, 240,                    /* MOVE CURSOR to column 0, line 0 */
@@ -56,6 +63,18 @@ static void print_reply(size_t written)
     printf("\n");
 }
 
+/* What both ends can do. */
+static void print_agreed(void)
+{
+    static const uint8_t own[DET_MAP_COUNT] = {
+        DET_OWN_EDIT, DET_OWN_ERASE, DET_OWN_TRANSMIT, DET_OWN_FORMAT_0, DET_OWN_FORMAT_1
+    };
+    printf("agreed");
+    for (int i = 0; i < DET_MAP_COUNT; i++)
+        printf(" %02x", (unsigned)(session[DET_AT_MAPS + i] & own[i]));
+    printf("\n");
+}
+
 /* Hands on all of the input: a call leaves the rest where the reply has no more room. */
 static void host(const uint8_t *input, size_t length)
 {
@@ -85,6 +104,8 @@ int main(void)
     expect("det_open", DET_DONE,
            det_open(WIDTH, HEIGHT, chars, sizeof chars, attrs, sizeof attrs,
                     session, sizeof session));
+    host(negotiate, sizeof negotiate);
+    print_agreed();
     host(paint, sizeof paint);
     print_screen("the form as the host painted it");
     key(DET_KEY_DELETE);

@@ -78,6 +78,28 @@
  *
  * DET_REPLY_ROOM(M, N) bytes for the reply are enough here too: a full line fits from DET_PAD_CELLS
  * cells up. On a smaller screen the terminal answers DO 30 with WONT 30.
+ *
+ *
+ * Facilities
+ *
+ * A host may use most commands of option 20 only where both ends have said that they can. With the
+ * option on, it sends its facility maps by the commands 1 (editing), 2 (erasing), 3 (transmitting)
+ * and 4 (formatting, two bytes). The terminal answers each with its own map (DET_OWN_...) and keeps
+ * the one that came (DET_AT_MAPS), in place of any before it. A bit that is set in both is agreed.
+ * DONT 20 while the option is on ends all agreement: the host then sends its maps anew.
+ *
+ * Until its bit is agreed, a command draws ERROR 1, the bytes 255 250 20 41 code 1 255 240, and
+ * does nothing. Bits are numbered from the right, from 0:
+ *
+ *   editing        5: commands 8 to 11; 4: 17; 2: 15 and 16; 1: 19
+ *   erasing        4: 31; 3: 30; 2: 32; 1: 33; 0: 34
+ *   transmitting   4: 22; 3: 23; 2: 24; 1: 25; 0: 26
+ *   formatting     first byte, 4: 37; second byte, 6: 38; 5: 21 and 35
+ *
+ * The commands 1 to 5, 12, 20, 29, 36 and 41 need no bit, and no key needs one. A program that
+ * embeds the terminal does nothing for this; it can tell what is agreed, as
+ *
+ *   session[DET_AT_MAPS + DET_MAP_EDIT] & DET_OWN_EDIT
  */
 #ifndef DET_H
 #define DET_H
@@ -93,11 +115,11 @@ extern "C" {
  * m columns by n lines: the longest reply that one byte or key can draw fits in it. */
 #define DET_WIDTH_MOST 132
 #define DET_HEIGHT_MOST 64
-#define DET_SESSION_LENGTH 206
+#define DET_SESSION_LENGTH 211
 #define DET_REPLY_ROOM(m, n) ((size_t)7 * (m) * (n) + 2)
 
 /* The first byte of every session: how the others are laid out. */
-#define DET_SESSION_VERSION 2
+#define DET_SESSION_VERSION 3
 
 /* Option 30: the fewest cells that it is accepted with, the most bytes that the edit line holds,
  * and how many parameters there are. */
@@ -153,12 +175,32 @@ enum {
     DET_AT_STAGE = 175,      /* what comes next in a message of option 30: DET_STAGE_... */
     DET_AT_CODE = 176,       /* the message's code, 0 before it */
     DET_AT_WAITING = 177,    /* the parameter that waits for its value, else 0 */
-    DET_AT_COPY = 178        /* DET_PARAMETER_COUNT values, as the message will have set them */
+    DET_AT_COPY = 178,       /* DET_PARAMETER_COUNT values, as the message will have set them */
+    DET_AT_MAPS = 206        /* DET_MAP_COUNT facility maps received, of any value: DET_MAP_... */
 };
 
 /* Where the value of parameter p stands, which is 0 to 22 or 128 to 132. The last four are in force
  * while 128 has the value 1. */
 #define DET_AT_PARAMETER(p) (DET_AT_PARAMETERS + ((p) < 128 ? (p) : (p) - 105))
+
+/* The facility maps, in their order from DET_AT_MAPS on: each is 0 until the host has sent it. */
+#define DET_MAP_COUNT 5
+enum {
+    DET_MAP_EDIT = 0,
+    DET_MAP_ERASE = 1,
+    DET_MAP_TRANSMIT = 2,
+    DET_MAP_FORMAT_0 = 3, /* the first byte of the format map */
+    DET_MAP_FORMAT_1 = 4  /* the second */
+};
+
+/* The terminal's own. */
+enum {
+    DET_OWN_EDIT = 54,
+    DET_OWN_ERASE = 31,
+    DET_OWN_TRANSMIT = 63,
+    DET_OWN_FORMAT_0 = 144,
+    DET_OWN_FORMAT_1 = 121
+};
 
 /* Where the reader stands. */
 enum {
@@ -204,7 +246,8 @@ enum {
 
 /* Opens a terminal of width columns by height lines: spaces in chars, zeros in attrs and, whatever
  * was in its place, a new session: cursor at column 0 of line 0, both options off, protection in
- * effect, nothing half read, nothing in the edit line, the parameters at their start.
+ * effect, no facility agreed, nothing half read, nothing in the edit line, the parameters at their
+ * start.
  *
  * Refused with 1 or 2 it leaves chars and attrs alone and writes such a session of 0 by 0, which
  * the other two calls then refuse with 1. With 255, where the place for the session has another

@@ -4,7 +4,7 @@
 use host::terminal::{self, at, Counts, Session};
 
 use crate::size::Size;
-use crate::streams::{DO_DET, TO_LINE};
+use crate::streams::{begin, TO_LINE};
 
 #[derive(Clone)]
 pub struct Ours {
@@ -25,7 +25,9 @@ impl Ours {
             attrs,
             reply: vec![0; size.room()],
         };
-        ours.take(&DO_DET);
+        for bytes in begin() {
+            ours.take(&bytes);
+        }
         ours
     }
 

@@ -5,7 +5,7 @@ use oracle::variant::Variant;
 use oracle::watch::Unwatched;
 
 use crate::size::Size;
-use crate::streams::{DO_DET, TO_LINE};
+use crate::streams::{begin, TO_LINE};
 
 pub struct RustCore {
     terminal: Terminal,
@@ -27,7 +27,9 @@ impl RustCore {
         let (chars, attrs) = (&mut core.chars, &mut core.attrs);
         let outcome = core.terminal.open(columns, lines, chars, attrs);
         assert_eq!(outcome.refusal, None, "the size is one");
-        core.take(&DO_DET);
+        for bytes in begin() {
+            core.take(&bytes);
+        }
         core
     }
 

@@ -11,22 +11,40 @@ const SE: u8 = 240;
 const DET: u8 = 20;
 const PAD: u8 = 30;
 
+const EDIT_FACILITIES: u8 = 1;
+const ERASE_FACILITIES: u8 = 2;
+const TRANSMIT_FACILITIES: u8 = 3;
+const FORMAT_FACILITIES: u8 = 4;
 const MOVE_CURSOR: u8 = 5;
 const ERASE_SCREEN: u8 = 29;
 const FORMAT_DATA: u8 = 36;
 const SUPPRESS_PROTECTION: u8 = 38;
 const LAST_CODE: u8 = 41;
 
-/// The last three are right for FORMAT DATA, REPEAT and SUPPRESS PROTECTION.
-const PARAMETERS: [[u8; 5]; 4] = [
+/// The second to fourth are right for FORMAT DATA, REPEAT and SUPPRESS
+/// PROTECTION; the last asks for every facility.
+const PARAMETERS: [[u8; 5]; 5] = [
     [1, 1, 1, 1, 1],
     [1, 0, 0, 1, 1],
     [9, b'x', 1, 1, 1],
     [DO, 1, 1, 1, 1],
+    [ALL, ALL, 1, 1, 1],
 ];
 
-/// Turns option 20 on.
-pub const DO_DET: [u8; 3] = [IAC, DO, DET];
+/// Every facility that governs a command has one of these bits.
+const ALL: u8 = 127;
+
+/// Turns option 20 on and asks for every facility, as a host does before its
+/// first form: a call for each, since each draws a reply.
+pub fn begin() -> [Vec<u8>; 5] {
+    [
+        vec![IAC, DO, DET],
+        subcommand(&[EDIT_FACILITIES, ALL]),
+        subcommand(&[ERASE_FACILITIES, ALL]),
+        subcommand(&[TRANSMIT_FACILITIES, ALL]),
+        subcommand(&[FORMAT_FACILITIES, ALL, ALL]),
+    ]
+}
 
 /// Turn option 20 off and option 30 on, by which the edit line takes the keys.
 pub const TO_LINE: [[u8; 3]; 2] = [[IAC, DONT, DET], [IAC, DO, PAD]];

@@ -101,7 +101,7 @@ impl Replay {
         };
         let (session, cursor) = (&self.session, self.session.cursor());
         format!(
-            "{answer} {} {} {} {} {} {} {} {} {} {} {} {} {} {}",
+            "{answer} {} {} {} {} {} {} {} {} {} {} {} {} {} {} {}",
             counts.taken,
             counts.written,
             hex(&self.reply),
@@ -115,7 +115,8 @@ impl Replay {
             hex(&self.attrs),
             u8::from(session.is_pad_on()),
             hex(session.line()),
-            hex(session.parameters())
+            hex(session.parameters()),
+            hex(&session.agreed_maps())
         )
     }
 

@@ -49,10 +49,11 @@ pub mod at {
     pub const CODE: usize = 176;
     pub const WAITING: usize = 177;
     pub const COPY: usize = 178;
+    pub const MAPS: usize = 206;
 }
 
-pub const SESSION_LENGTH: usize = 206;
-pub const SESSION_VERSION: u8 = 2;
+pub const SESSION_LENGTH: usize = 211;
+pub const SESSION_VERSION: u8 = 3;
 
 /// The fewest cells that option 30 is accepted with.
 pub const PAD_CELLS: usize = 37;
@@ -62,6 +63,12 @@ pub const LINE_MOST: usize = 128;
 
 /// How many parameters option 30 has here: 0 to 22 and 128 to 132.
 pub const PARAMETER_COUNT: usize = 28;
+
+/// How many bytes facility maps are: edit, erase, transmit, and two of format.
+pub const MAP_COUNT: usize = 5;
+
+/// The terminal's own, in that order.
+pub const OWN_MAPS: [u8; MAP_COUNT] = [54, 31, 63, 144, 121];
 
 const DONE: u8 = 0;
 const NO_SESSION: u8 = 255;
@@ -263,6 +270,21 @@ impl Session {
             _ => return None,
         };
         Some(self.parameters()[usize::from(place)])
+    }
+
+    /// The facility maps that the host has sent last, each 0 before it has.
+    pub fn received_maps(&self) -> &[u8] {
+        &self.0[at::MAPS..][..MAP_COUNT]
+    }
+
+    /// The facilities that are agreed: those in the maps received and in the
+    /// terminal's own. A command that another bit governs draws ERROR 1.
+    pub fn agreed_maps(&self) -> [u8; MAP_COUNT] {
+        let mut agreed = OWN_MAPS;
+        for (map, received) in agreed.iter_mut().zip(self.received_maps()) {
+            *map &= received;
+        }
+        agreed
     }
 }
 

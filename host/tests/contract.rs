@@ -7,7 +7,7 @@ use std::collections::BTreeSet;
 use host::raw;
 use host::refusal::Refusal;
 use host::terminal::{self, at, reply_room, Counts, Cursor, Reader, Session};
-use host::terminal::{LINE_MOST, SESSION_LENGTH, SESSION_VERSION};
+use host::terminal::{LINE_MOST, OWN_MAPS, SESSION_LENGTH, SESSION_VERSION};
 
 use lent::Call::{self, Host, Key};
 use lent::{cut_anywhere, fresh, Lent, LENT};
@@ -17,11 +17,12 @@ const F: &[u8; 16] = b"WT 70 #4UNIT mg ";
 const P: u8 = 8;
 const ATTRS: [u8; 16] = [P, P, P, 0, 0, 0, P, P, P, P, P, P, P, 0, 0, 0];
 
-/// Form F, option 20 on, the least reply room.
+/// Form F, option 20 on, every facility agreed, the least reply room.
 fn form(x: u8, y: u8) -> Lent {
     let mut lent = Lent::open(8, 2);
     (lent.session[at::X], lent.session[at::Y]) = (x, y);
     lent.session[at::ON] = 1;
+    lent.session[at::MAPS..].fill(255);
     lent.chars.copy_from_slice(F);
     lent.attrs.copy_from_slice(&ATTRS);
     lent
@@ -52,9 +53,13 @@ const REFUSALS: &[Row] = &[
     (255, |lent| lent.session.clear()),
     (255, |lent| lent.session.truncate(SESSION_LENGTH - 1)),
     (255, |lent| lent.session.push(0)),
-    // The layout before this one.
+    // The layouts before this one.
     (255, |lent| {
         lent.session = vec![8, 2, 3, 0, 1, 0, 0, 0, 0, 0, 0, 0, 0, 0, 0]
+    }),
+    (255, |lent| {
+        lent.session.truncate(206);
+        lent.session[at::VERSION] = 2;
     }),
     (255, |lent| lent.session[at::VERSION] = 0),
     (255, |lent| lent.session[at::VERSION] = SESSION_VERSION - 1),
@@ -188,7 +193,8 @@ const TAKEN: &[Change] = &[
         lent.session[at::STAGE - 1] = 255;
     },
     |lent| lent.session[at::PARAMETERS..at::LINE_LENGTH].copy_from_slice(&MOST),
-    |lent| lent.session[at::COPY..].copy_from_slice(&MOST),
+    |lent| lent.session[at::COPY..at::MAPS].copy_from_slice(&MOST),
+    |lent| lent.session[at::MAPS..].fill(0),
     |lent| lent.reply.push(LENT),
     |lent| lent.session[at::ON] = 0,
     |lent| lent.attrs.fill(255),
@@ -227,6 +233,7 @@ const OPENS: &[(u8, [usize; 2], [usize; 3])] = &[
     (2, [8, 2], [0, 0, S]),
     (255, [8, 2], [16, 16, S - 1]),
     (255, [8, 2], [16, 16, S + 1]),
+    (255, [8, 2], [16, 16, 206]),
     (255, [8, 2], [16, 16, 15]),
     (255, [0, 0], [1, 1, 0]),
 ];
@@ -317,6 +324,55 @@ fn worked_forms() {
     form(6, 0).refuses(6, Key('A' as u32));
 }
 
+/// What the host sends to form F with nothing agreed and the cursor at the
+/// weight; what it draws, and the first line then.
+type Agreeing = (&'static [u8], &'static [u8], &'static [u8; 8]);
+
+#[rustfmt::skip]
+const AGREEING: &[Agreeing] = &[
+    (b"\xff\xfa\x14\x10\xff\xf0", b"\xff\xfa\x14\x29\x10\x01\xff\xf0", b"WT 70 #4"),
+    (b"\xff\xfa\x14\x10\x00\xff\xf0", b"\xff\xfa\x14\x29\x10\x01\xff\xf0", b"WT 70 #4"),
+    (b"\xff\xfa\x14\x26\xfd\xff\xf0", b"\xff\xfa\x14\x29\x26\x01\xff\xf0", b"WT 70 #4"),
+    // A code that there is not.
+    (b"\xff\xfa\x14\x06\xff\xf0", b"\xff\xfa\x14\x29\x06\x02\xff\xf0", b"WT 70 #4"),
+    // Commands that need no bit.
+    (b"\xff\xfa\x14\x05\x03\x00\xff\xf0", b"", b"WT 70 #4"),
+    (b"\xff\xfa\x14\x0c\xff\xf0", b"", b"WT 70 #4"),
+    (b"\xff\xfa\x14\x1d\xff\xf0", b"", b"        "),
+    // One bit is agreed, and no other.
+    (b"\xff\xfa\x14\x01\x04\xff\xf0\xff\xfa\x14\x10\xff\xf0", b"\xff\xfa\x14\x01\x36\xff\xf0",
+        b"WT 0  #4"),
+    (b"\xff\xfa\x14\x01\x04\xff\xf0\xff\xfa\x14\x11\xff\xf0",
+        b"\xff\xfa\x14\x01\x36\xff\xf0\xff\xfa\x14\x29\x11\x01\xff\xf0", b"WT 70 #4"),
+    (b"\xff\xfa\x14\x01\x10\xff\xf0\xff\xfa\x14\x11\xff\xf0",
+        b"\xff\xfa\x14\x01\x36\xff\xf0\xff\xfa\x14\x12\x03\x00\xff\xf0", b"WT 70 #4"),
+    // The latest map counts alone.
+    (b"\xff\xfa\x14\x01\x04\xff\xf0\xff\xfa\x14\x01\x10\xff\xf0\xff\xfa\x14\x10\xff\xf0",
+        b"\xff\xfa\x14\x01\x36\xff\xf0\xff\xfa\x14\x01\x36\xff\xf0\xff\xfa\x14\x29\x10\x01\xff\xf0",
+        b"WT 70 #4"),
+    // A facility command that draws an ERROR does not count.
+    (b"\xff\xfa\x14\x01\x04\xff\xf0\xff\xfa\x14\x01\xff\xf0\xff\xfa\x14\x10\xff\xf0",
+        b"\xff\xfa\x14\x01\x36\xff\xf0\xff\xfa\x14\x29\x01\x0a\xff\xf0", b"WT 0  #4"),
+    // The option off and on again.
+    (b"\xff\xfa\x14\x01\x10\xff\xf0\xff\xfe\x14\xff\xfd\x14\xff\xfa\x14\x11\xff\xf0",
+        b"\xff\xfa\x14\x01\x36\xff\xf0\xff\xfc\x14\xff\xfb\x14\xff\xfa\x14\x29\x11\x01\xff\xf0",
+        b"WT 70 #4"),
+];
+
+#[test]
+fn facilities_are_agreed_first() {
+    let mut lent = form(3, 0);
+    lent.session[at::MAPS..].fill(0);
+    lent.reply = vec![LENT; 1000];
+    for &(input, expected, line) in AGREEING {
+        let (after, replies) = cut_anywhere(&lent, input);
+        assert_eq!(replies, expected, "{input:x?}");
+        assert_eq!(after.chars[..8], line[..], "{input:x?}");
+    }
+    assert_eq!(lent.draws(Key(127)), b"");
+    assert_eq!(lent.chars[..8], b"WT 0  #4"[..]);
+}
+
 #[test]
 fn what_show_prints() {
     let (mut chars, mut attrs, mut reply) = ([0; 16], [1; 16], [0; reply_room(8, 2)]);
@@ -374,12 +430,16 @@ fn a_stream_may_be_cut_anywhere() {
     assert_eq!(after.session[at::ON..at::PARAMETERS], frame_and_reader);
 }
 
+/// Maps received, no two alike.
+const MAPS: [u8; 5] = [0x5a, 0xe1, 0x94, 0xfe, 0x87];
+
 /// A session of which no part is 0 where it can be something else: `reader`
 /// is where the reader stands, `stage` where a message does.
 fn whole(reader: u8, stage: u8) -> [u8; SESSION_LENGTH] {
     let mut bytes = [0; SESSION_LENGTH];
     let option = if reader < 8 { 0 } else { 30 };
-    bytes[..at::HELD].copy_from_slice(&[2, 37, 2, 36, 1, 1, 1, 1, reader, option, 6]);
+    bytes[at::VERSION] = SESSION_VERSION;
+    bytes[at::WIDTH..at::HELD].copy_from_slice(&[37, 2, 36, 1, 1, 1, 1, reader, option, 6]);
     bytes[at::HELD..at::PARAMETERS].copy_from_slice(&[9, 8, 255, 1, 5, 4, 1]);
     bytes[at::PARAMETERS..at::LINE_LENGTH].copy_from_slice(&MOST);
     bytes[at::LINE_LENGTH] = 100;
@@ -388,7 +448,8 @@ fn whole(reader: u8, stage: u8) -> [u8; SESSION_LENGTH] {
     }
     let (code, waiting) = [(0, 0), (7, 0), (7, 200)][usize::from(stage)];
     bytes[at::STAGE..at::COPY].copy_from_slice(&[stage, code, waiting]);
-    bytes[at::COPY..].copy_from_slice(&MOST);
+    bytes[at::COPY..at::MAPS].copy_from_slice(&MOST);
+    bytes[at::MAPS..].copy_from_slice(&MAPS);
     bytes
 }
 
@@ -457,6 +518,11 @@ fn the_parts_of_a_session() {
     assert!(session.is_pad_on());
     assert!(session.line().iter().copied().eq(1..=100));
     assert_eq!(session.parameters(), MOST);
+    assert_eq!(session.received_maps(), MAPS);
+    assert_eq!(session.agreed_maps(), [0x12, 0x01, 0x14, 0x90, 0x01]);
+    bytes[at::MAPS..].fill(255);
+    let session = Session::from_bytes(bytes).expect("a session");
+    assert_eq!(session.agreed_maps(), OWN_MAPS);
 }
 
 #[test]

@@ -2,7 +2,8 @@
 
 use host::refusal::Refusal;
 use host::terminal::{at, reply_room, Reader, Session};
-use host::terminal::{LINE_MOST, PAD_CELLS, PARAMETER_COUNT, SESSION_LENGTH, SESSION_VERSION};
+use host::terminal::{LINE_MOST, MAP_COUNT, OWN_MAPS, PAD_CELLS, PARAMETER_COUNT};
+use host::terminal::{SESSION_LENGTH, SESSION_VERSION};
 
 const HEADER: &str = include_str!("../../include/det.h");
 
@@ -39,6 +40,7 @@ fn the_layout_of_a_session() {
         ("CODE", at::CODE),
         ("WAITING", at::WAITING),
         ("COPY", at::COPY),
+        ("MAPS", at::MAPS),
     ];
     for (name, place) in parts {
         assert_eq!(number(&format!("DET_AT_{name}")), place, "{name}");
@@ -66,6 +68,16 @@ fn option_30() {
     assert!(session.parameters().iter().copied().eq(100..128));
     assert_eq!(session.parameter(22), Some(100 + 22));
     assert_eq!(session.parameter(128), Some(100 + 128 - 105));
+}
+
+#[test]
+fn facility_maps() {
+    assert_eq!(number("DET_MAP_COUNT"), MAP_COUNT);
+    let names = ["EDIT", "ERASE", "TRANSMIT", "FORMAT_0", "FORMAT_1"];
+    for (place, (name, own)) in names.into_iter().zip(OWN_MAPS).enumerate() {
+        assert_eq!(number(&format!("DET_MAP_{name}")), place, "{name}");
+        assert_eq!(number(&format!("DET_OWN_{name}")), own.into(), "{name}");
+    }
 }
 
 #[test]

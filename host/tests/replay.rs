@@ -9,8 +9,8 @@ fn answers(script: &[u8]) -> String {
 }
 
 /// What an answer ends with after open: option 30 off, an empty line, the
-/// parameters at their start.
-const AT_START: &str = " 0 - 00000000000000000000000000000000000000000000000000131100";
+/// parameters at their start, nothing agreed.
+const AT_START: &str = " 0 - 00000000000000000000000000000000000000000000000000131100 0000000000";
 
 /// A script of calls, and its last answer up to option 30.
 const CALLS: &[(&str, &str)] = &[
@@ -130,8 +130,35 @@ fn answers_tell_of_option_30() {
         let answers = answers(format!("open 37 1 37 37\npad 1\n{script}").as_bytes());
         let last = answers.lines().last().unwrap_or_default();
         assert!(last.starts_with("0 "), "{script}: {last}");
-        let fields: Vec<&str> = last.split(' ').skip(12).collect();
+        let fields: Vec<&str> = last.split(' ').skip(12).take(3).collect();
         assert_eq!(fields.join(" "), *expected, "{script}");
+    }
+}
+
+/// What the host sends with option 20 on, and what is agreed then.
+const MAPS: &[(&str, &str)] = &[
+    ("-", "0000000000"),
+    ("fffa140104fff0", "0400000000"),
+    ("fffa1401fffffff0", "3600000000"),
+    ("fffa140104fff0fffa140110fff0", "1000000000"),
+    ("fffa140104fff0fffa1401fff0", "0400000000"),
+    ("fffa140104fff0fffa14010202fff0", "0400000000"),
+    ("fffa1402fffffff0fffa1403fffffff0", "001f3f0000"),
+    ("fffa1404fffffffffff0", "0000009079"),
+    ("fffa14049079fff0fffd14", "0000009079"),
+    ("fffa14049079fff0fffe14", "0000000000"),
+    ("fffa14049079fff0fffe14fffd14", "0000000000"),
+    ("fffa14018afff0", "0200000000"),
+];
+
+#[test]
+fn answers_tell_what_is_agreed() {
+    for (input, expected) in MAPS {
+        let answers = answers(format!("open 1 1 1 1\ndet 1\nhost {input} 999").as_bytes());
+        let last = answers.lines().last().unwrap_or_default();
+        assert!(last.starts_with("0 "), "{input}: {last}");
+        assert_eq!(last.split(' ').nth(15), Some(*expected), "{input}");
+        assert_eq!(last.split(' ').count(), 16, "{input}");
     }
 }
 

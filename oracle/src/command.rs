@@ -2,6 +2,7 @@
 
 use crate::cursor::on_screen;
 use crate::desk::Desk;
+use crate::facilities::{class, governing, OWN};
 use crate::format;
 use crate::size::{X, Y};
 use crate::variant::Variant;
@@ -47,6 +48,7 @@ pub mod code {
 }
 
 pub mod error {
+    pub const NOT_AGREED: u8 = 1;
     pub const UNKNOWN_CODE: u8 = 2;
     pub const OFF_SCREEN: u8 = 3;
     pub const TOO_MANY: u8 = 9;
@@ -54,13 +56,6 @@ pub mod error {
     pub const BAD_VALUE: u8 = 11;
     pub const BAD_MAP: u8 = 12;
 }
-
-/// The terminal's own facility maps. Erase: the five partial erasures are
-/// bits 4 to 0.
-const EDIT_MAP: u8 = 54;
-const ERASE_MAP: u8 = 0b1_1111;
-const TRANSMIT_MAP: u8 = 63;
-const FORMAT_MAP: [u8; 2] = [144, 121];
 
 /// How many parameters a code takes; none for an unknown code.
 pub fn parameter_count(code: u8) -> Option<usize> {
@@ -81,40 +76,85 @@ impl Desk<'_> {
     pub fn obey(&mut self, held: &[u8]) {
         let Some((&code, parameters)) = held.split_first() else {
             return match self.variant {
-                Variant::NoCommandError2 => self.error(0, error::UNKNOWN_CODE),
-                _ => self.error(0, error::TOO_FEW),
+                Variant::NoCommandError2 => self.error(0, error::UNKNOWN_CODE, &[]),
+                _ => self.error(0, error::TOO_FEW, &[]),
             };
         };
         match self.check(code, parameters) {
-            Ok(()) => {
-                self.saw(Event::Executed(code, parameters));
-                self.execute(code, parameters);
-            }
+            Ok(()) => self.act(code, parameters),
             Err(error::OFF_SCREEN) => self.limit(code, parameters),
-            Err(number) => self.error(code, number),
+            Err(number) => {
+                self.error(code, number, parameters);
+                self.act_all_the_same(code, number, parameters);
+            }
         }
     }
 
-    /// The number of the ERROR to draw: code, then count, then values.
+    fn act(&mut self, code: u8, parameters: &[u8]) {
+        self.saw(Event::Executed(code, parameters));
+        self.execute(code, parameters);
+    }
+
+    /// The number of the ERROR to draw: code, then facility, then count,
+    /// then values.
     fn check(&self, code: u8, parameters: &[u8]) -> Result<(), u8> {
         if self.varies(Variant::CountBeforeCode) && parameters.len() > 4 {
             return Err(error::TOO_MANY);
         }
-        let known = parameter_count(code).ok_or(error::UNKNOWN_CODE)?;
-        if self.varies(Variant::Error41Unknown) && code == code::ERROR {
-            return Err(error::UNKNOWN_CODE);
+        let known = self.check_code(code)?;
+        let late = [Variant::Error1AfterCount, Variant::Error1AfterValues];
+        if !late.contains(&self.variant) {
+            self.check_agreed(code, parameters)?;
         }
         if self.varies(Variant::ValuesBeforeCount) && parameters.len() > known {
             self.check_values(code, &parameters[..known])?;
         }
+        self.check_count(known, parameters.len())?;
+        if self.varies(Variant::Error1AfterCount) {
+            self.check_agreed(code, parameters)?;
+        }
+        self.check_values(code, parameters)?;
+        if self.varies(Variant::Error1AfterValues) {
+            self.check_agreed(code, parameters)?;
+        }
+        Ok(())
+    }
+
+    /// How many parameters the code takes, if it is known.
+    fn check_code(&self, code: u8) -> Result<usize, u8> {
+        if self.varies(Variant::Error41Unknown) && code == code::ERROR {
+            return Err(error::UNKNOWN_CODE);
+        }
+        let early = self.varies(Variant::Error1BeforeCode) && self.agreed.nothing();
+        parameter_count(code).ok_or(match early {
+            true => error::NOT_AGREED,
+            false => error::UNKNOWN_CODE,
+        })
+    }
+
+    /// Whether the facility that the command needs is agreed.
+    fn check_agreed(&self, code: u8, parameters: &[u8]) -> Result<(), u8> {
+        let Some(bit) = governing(code, self.variant) else {
+            return self.check_attributes(code, parameters);
+        };
+        match self.agreed.has(bit) || self.excused(code, parameters, bit) {
+            false => Err(match self.variant {
+                Variant::Error1Is2 => error::UNKNOWN_CODE,
+                _ => error::NOT_AGREED,
+            }),
+            true => self.check_preface(code),
+        }
+    }
+
+    fn check_count(&self, known: usize, count: usize) -> Result<(), u8> {
         let (too_few, too_many) = match self.variant {
             Variant::Errors9And10Exchanged => (error::TOO_MANY, error::TOO_FEW),
             _ => (error::TOO_FEW, error::TOO_MANY),
         };
-        match parameters.len() {
+        match count {
             count if count < known => Err(too_few),
             count if count > known => Err(too_many),
-            _ => self.check_values(code, parameters),
+            _ => Ok(()),
         }
     }
 
@@ -139,28 +179,30 @@ impl Desk<'_> {
         let &[x, y] = parameters else { return };
         self.saw(Event::Limited(X(x), Y(y)));
         if !self.varies(Variant::MoveLimitsInSilence) {
-            self.error(code, error::OFF_SCREEN);
+            self.error(code, error::OFF_SCREEN, parameters);
         }
         let both = x >= self.screen.size.m && y >= self.screen.size.n;
         if both && self.varies(Variant::MoveTwoErrors) {
-            self.error(code, error::OFF_SCREEN);
+            self.error(code, error::OFF_SCREEN, parameters);
         }
         if !self.varies(Variant::MoveErrorStays) {
             self.screen.move_to(X(x), Y(y));
         }
     }
 
-    fn error(&mut self, code: u8, number: u8) {
-        self.saw(Event::Error(code, number));
-        if number == error::UNKNOWN_CODE && self.varies(Variant::UnknownInSilence) {
-            return;
+    fn error(&mut self, code: u8, number: u8, parameters: &[u8]) {
+        self.saw(Event::Error(code, number, parameters));
+        match (number, self.variant) {
+            (error::UNKNOWN_CODE, Variant::UnknownInSilence) => return,
+            (error::NOT_AGREED, Variant::Error1InSilence) => return,
+            _ => {}
         }
         self.reply.subcommand(&[code::ERROR, code, number]);
     }
 
-    fn execute(&mut self, code: u8, parameters: &[u8]) {
+    pub fn execute(&mut self, code: u8, parameters: &[u8]) {
         match (code, parameters) {
-            (code::EDIT_FACILITIES..=code::FORMAT_FACILITIES, _) => self.facilities(code),
+            (code::EDIT_FACILITIES..=code::FORMAT_FACILITIES, maps) => self.facilities(code, maps),
             (code::MOVE_CURSOR, &[x, y]) => self.screen.move_to(X(x), Y(y)),
             (code::UP, _) => self.screen.up(),
             (code::DOWN, _) => self.screen.down(),
@@ -181,17 +223,15 @@ impl Desk<'_> {
         }
     }
 
-    fn facilities(&mut self, code: u8) {
-        let erase = match self.variant {
-            Variant::EraseMapShifted => ERASE_MAP << 1,
-            _ => ERASE_MAP,
-        };
-        match code {
-            code::EDIT_FACILITIES => self.reply.subcommand(&[code, EDIT_MAP]),
-            code::ERASE_FACILITIES => self.reply.subcommand(&[code, erase]),
-            code::TRANSMIT_FACILITIES => self.reply.subcommand(&[code, TRANSMIT_MAP]),
-            _ => self.reply.subcommand(&[code, FORMAT_MAP[0], FORMAT_MAP[1]]),
+    /// 1 to 4: the host's maps are met with the terminal's own.
+    fn facilities(&mut self, code: u8, maps: &[u8]) {
+        self.agreed.receive(code, maps, self.variant);
+        let mut answer = vec![code];
+        answer.extend(&OWN[class(code)]);
+        if self.varies(Variant::EraseMapShifted) && code == code::ERASE_FACILITIES {
+            answer[1] <<= 1;
         }
+        self.reply.subcommand(&answer);
     }
 
     fn read_cursor(&mut self) {

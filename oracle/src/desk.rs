@@ -1,5 +1,6 @@
 //! One call at work: bytes heard, options negotiated, data written.
 
+use crate::facilities::Agreed;
 use crate::pad::{Pad, PAD};
 use crate::reply::{Reply, DET};
 use crate::screen::Screen;
@@ -13,6 +14,7 @@ pub struct Desk<'a> {
     pub screen: Screen<'a>,
     pub reply: Reply<'a>,
     pub det: bool,
+    pub agreed: Agreed,
     pub pad: Pad,
     reader: Reader,
     pub variant: Variant,
@@ -42,6 +44,7 @@ impl<'a> Desk<'a> {
             screen,
             reply: Reply::new(lent.reply, variant),
             det: session.det,
+            agreed: session.agreed,
             pad,
             reader: session.reader.clone(),
             variant,
@@ -56,6 +59,7 @@ impl<'a> Desk<'a> {
             cursor: self.screen.cursor,
             det: self.det,
             suppressed: self.screen.suppressed,
+            agreed: self.agreed,
             pad: self.pad,
             reader: self.reader,
         };
@@ -70,6 +74,7 @@ impl<'a> Desk<'a> {
         let sight = Sight {
             screen: &self.screen,
             det: self.det,
+            agreed: self.agreed,
             pad: &self.pad,
         };
         self.watch.saw(event, sight);
@@ -111,6 +116,9 @@ impl<'a> Desk<'a> {
             Verb::Wont if self.varies(Variant::WontAnswered) => {
                 self.reply.negotiation(Verb::Dont, option)
             }
+            Verb::Wont if option == DET && self.varies(Variant::WontEmptiesMaps) => {
+                self.agreed = Agreed::default()
+            }
             Verb::Wont | Verb::Dont => {}
         }
     }
@@ -119,19 +127,25 @@ impl<'a> Desk<'a> {
         if !self.det || self.varies(Variant::Do20Again) {
             self.reply.negotiation(Verb::Will, DET);
         }
-        if self.varies(Variant::DetEmptiesLine) {
-            self.pad.line.clear();
+        match self.variant {
+            Variant::DetEmptiesLine => self.pad.line.clear(),
+            Variant::DoEmptiesMaps if !self.det => self.agreed = Agreed::default(),
+            Variant::DoAgainEmptiesMaps => self.agreed = Agreed::default(),
+            _ => {}
         }
         self.det = true;
     }
 
-    /// While off already, not even suppression ends.
+    /// While off already, not even suppression ends or an agreement.
     fn turn_off(&mut self) {
         if self.det || self.varies(Variant::Dont20Again) {
             self.reply.negotiation(Verb::Wont, DET);
         }
         if self.det && !self.varies(Variant::DontKeepsSuppression) {
             self.screen.suppressed = false;
+        }
+        if self.det || self.varies(Variant::DontOffEmptiesMaps) {
+            self.agreed.forget(self.variant);
         }
         self.det = false;
     }
@@ -147,6 +161,8 @@ impl<'a> Desk<'a> {
         };
         if ours && (self.det || self.varies(Variant::DetOffObeyed)) {
             self.obey(sub.held.bytes());
+        } else if ours {
+            self.note_while_off(sub.held.bytes());
         }
     }
 

@@ -68,6 +68,9 @@ impl Desk<'_> {
     /// A key that nothing refuses.
     pub fn press(&mut self, key: u8, meaning: Key) {
         self.saw(Event::Key(key));
+        if self.key_governed(meaning) {
+            return;
+        }
         match meaning {
             Key::Typed(byte) => self.type_in(byte),
             Key::Back => self.screen.previous_open(),

@@ -17,6 +17,7 @@ pub mod screen;
 pub mod command;
 pub mod desk;
 pub mod erase;
+pub mod facilities;
 pub mod format;
 pub mod transmit;
 

@@ -106,6 +106,8 @@ impl Replay {
         push_hex(text, session.pad.line.bytes());
         text.push(' ');
         push_hex(text, session.pad.parameters.values());
+        text.push(' ');
+        push_hex(text, &session.agreed.0);
     }
 
     fn push_state(&self, text: &mut String) {

@@ -1,18 +1,20 @@
 //! What a terminal keeps from one call to the next.
 
+use crate::facilities::Agreed;
 use crate::pad::{self, Pad};
 use crate::size::{Position, Size};
 use crate::telnet::Reader;
 use crate::variant::Variant;
 
 /// The default is the session that a refused open returns: size 0 by 0,
-/// options off, protection in effect, nothing half read.
+/// options off, protection in effect, nothing half read, nothing agreed.
 #[derive(Clone, Debug, Default, PartialEq, Eq)]
 pub struct Session {
     pub size: Size,
     pub cursor: Position,
     pub det: bool,
     pub suppressed: bool,
+    pub agreed: Agreed,
     pub pad: Pad,
     pub reader: Reader,
 }

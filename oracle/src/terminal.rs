@@ -47,7 +47,13 @@ impl Terminal {
     }
 
     pub fn open(&mut self, m: u16, n: u16, chars: &mut [u8], attrs: &mut [u8]) -> Outcome {
-        self.session = Session::default();
+        self.session = Session {
+            agreed: match self.variant {
+                Variant::OpenKeepsMaps => self.session.agreed,
+                _ => Default::default(),
+            },
+            ..Session::default()
+        };
         let size = Size::new(m, n);
         let cells = usize::from(m) * usize::from(n);
         let refusal = refusal::first(self.variant, |refusal| match refusal {

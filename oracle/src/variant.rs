@@ -272,6 +272,97 @@ variants! {
     CrOnlyWhileWorking "cr-only-while-working" "a CR before 30 is on and DET off is not remembered";
     CrForgottenByCalls "cr-forgotten-by-calls" "CR and LF in two calls are not taken together";
     CrForgottenByCommands "cr-forgotten-by-commands" "a command between CR and LF parts them";
+
+    // Facilities: what is agreed.
+    MapsAccumulate "maps-accumulate" "a facility command adds to what its class had";
+    MapsOnlyNarrow "maps-only-narrow" "a later facility command only takes bits away";
+    MapsFirstCounts "maps-first-counts" "the first facility command of a class counts";
+    MapsForgetOthers "maps-forget-others" "a facility command empties the other classes";
+    MapsReceived "maps-received" "the map received counts without our own";
+    MapsOwn "maps-own" "our own map counts without the one received";
+    MapsFromLeft "maps-from-left" "the bits of a received map are numbered from the left";
+    MapsFormatExchanged "maps-format-exchanged" "the two format maps are exchanged";
+    IntensityMinimum "intensity-minimum" "intensity is the lesser number of levels";
+    OpenKeepsMaps "open-keeps-maps" "open leaves what was agreed";
+    DontKeepsMaps "dont-keeps-maps" "DONT 20 leaves what was agreed";
+    DontKeepsEdit "dont-keeps-edit" "DONT 20 leaves the edit map";
+    DontKeepsErase "dont-keeps-erase" "DONT 20 leaves the erase map";
+    DontKeepsTransmit "dont-keeps-transmit" "DONT 20 leaves the transmit map";
+    DontKeepsFormat "dont-keeps-format" "DONT 20 leaves the format maps";
+    DontOffEmptiesMaps "dont-off-empties-maps" "DONT 20 empties the maps while off too";
+    DoEmptiesMaps "do-empties-maps" "DO 20 while off empties the maps";
+    DoAgainEmptiesMaps "do-again-empties-maps" "DO 20 empties the maps while on too";
+    WontEmptiesMaps "wont-empties-maps" "WONT 20 empties the maps";
+    Dont30EmptiesMaps "dont-30-empties-maps" "DONT 30 empties the maps";
+    FacilityTooMany "facility-too-many" "a facility command with too many bytes counts";
+    FacilityTooFew "facility-too-few" "a facility command with too few bytes empties its class";
+    FormatOneByte "format-one-byte" "format facilities of one byte count";
+    FacilityWhileOff "facility-while-off" "facility commands count while DET is off";
+
+    // Facilities: ERROR 1.
+    NeverError1 "never-error-1" "no command needs a facility";
+    AnyBitWillDo "any-bit-will-do" "any bit of the map will do";
+    Error1AfterCount "error-1-after-count" "ERROR 1 stands after the count";
+    Error1AfterValues "error-1-after-values" "ERROR 1 stands after the values";
+    Error1BeforeCode "error-1-before-code" "an unknown code draws ERROR 1 while nothing is agreed";
+    Error1Is2 "error-1-is-2" "ERROR 2 stands for ERROR 1";
+    Error1InSilence "error-1-in-silence" "a command without its facility draws no ERROR";
+    Error1Acts "error-1-acts" "a command that draws ERROR 1 acts all the same";
+    UnprotectedFree "unprotected-free" "21 and 35 need no facility";
+    SuppressDontFree "suppress-dont-free" "38 with 254 needs no facility";
+    SuppressWillFree "suppress-will-free" "38 with 251 and 252 needs no facility";
+    PrefaceGoverned "preface-governed" "22 to 26 need the bit of 28 too";
+    FormatByAttributes "format-by-attributes" "FORMAT DATA needs the bit of its protection";
+    KeySendGoverned "key-send-governed" "key 13 needs the bit of 21";
+    KeyDeleteGoverned "key-delete-governed" "key 127 needs the bit of 16";
+    KeyFunctionGoverned "key-function-governed" "function keys need the bit of FN";
+
+    // Facilities: another bit, or one where none belongs.
+    Bit8ReadCursor "bit-8-read-cursor" "8 to 11 need the bit of 17";
+    Bit17Incremental "bit-17-incremental" "17 needs the bit of 8";
+    Bit17Lines "bit-17-lines" "17 needs the bit of 13";
+    Bit15BackTab "bit-15-back-tab" "15 and 16 need the bit of 19";
+    Bit15Lines "bit-15-lines" "15 and 16 need the bit of 13";
+    Bit16BackTab "bit-16-back-tab" "16 alone needs the bit of 19";
+    Bit19Chars "bit-19-chars" "19 needs the bit of 15";
+    Bit19Positive "bit-19-positive" "19 needs bit 0 of the edit map";
+    EraseBitsByCode "erase-bits-by-code" "the erase bits stand in the order of the codes";
+    EraseBitsReversed "erase-bits-reversed" "the erase bits stand in reverse";
+    Bit30Field "bit-30-field" "30 needs the bit of 31";
+    Bit30Screen "bit-30-screen" "30 needs the bit of 32";
+    Bit31Line "bit-31-line" "31 needs the bit of 30";
+    Bit32Line "bit-32-line" "32 needs the bit of 30";
+    Bit32RestOfLine "bit-32-rest-of-line" "32 needs the bit of 33";
+    Bit33Screen "bit-33-screen" "33 needs the bit of 32";
+    Bit33Field "bit-33-field" "33 needs the bit of 34";
+    Bit34Line "bit-34-line" "34 needs the bit of 33";
+    Bit35EraseField "bit-35-erase-field" "35 needs the bit of 31";
+    TransmitBitsShifted "transmit-bits-shifted" "22 to 26 need bits 5 to 1 of the transmit map";
+    Bit22DataTransmit "bit-22-data-transmit" "22 needs the bit of 28";
+    Bit22Field "bit-22-field" "22 needs the bit of 23";
+    Bit23Line "bit-23-line" "23 needs the bit of 22";
+    Bit23Screen "bit-23-screen" "23 needs the bit of 24";
+    Bit24Field "bit-24-field" "24 needs the bit of 23";
+    Bit24Line "bit-24-line" "24 needs the bit of 25";
+    Bit25Screen "bit-25-screen" "25 needs the bit of 24";
+    Bit25Field "bit-25-field" "25 needs the bit of 26";
+    Bit26Line "bit-26-line" "26 needs the bit of 25";
+    Bit21DataTransmit "bit-21-data-transmit" "21 needs the bit of 28";
+    Bit21OnOff "bit-21-on-off" "21 needs the bit of 38";
+    Bit21Alphabetic "bit-21-alphabetic" "21 needs the bit of alphabetic protection";
+    Bit35OnOff "bit-35-on-off" "35 needs the bit of 38";
+    Bit38Protection "bit-38-protection" "38 needs the bit of 21";
+    Bit38Bit7 "bit-38-bit-7" "38 needs bit 7 of its map";
+    Bit37Blinking "bit-37-blinking" "37 needs bit 3 of its map";
+    Bit37SecondByte "bit-37-second-byte" "37 needs bit 4 of the other format map";
+    Bit37Fn "bit-37-fn" "37 needs the bit of FN";
+    MoveGoverned "move-governed" "5 needs the bit of 8";
+    MovePositive "move-positive" "5 needs bit 0 of the edit map";
+    HomeGoverned "home-governed" "12 needs the bit of 8";
+    ScreenGoverned "screen-governed" "20 needs the bit of 28";
+    EraseScreenGoverned "erase-screen-governed" "29 needs the bit of 32";
+    FormatGoverned "format-governed" "36 needs the bit of 21";
+    ErrorGoverned "error-governed" "41 needs the bit of FN";
 }
 
 /// The variant of that name.

@@ -1,6 +1,7 @@
 //! What an onlooker is told while a call runs. The terminal itself never
 //! depends on it.
 
+use crate::facilities::Agreed;
 use crate::pad::Pad;
 use crate::screen::Screen;
 use crate::size::{X, Y};
@@ -15,8 +16,8 @@ pub enum Event<'a> {
     ThrownAway(&'a Sub),
     /// A command that draws no ERROR, with its parameters.
     Executed(u8, &'a [u8]),
-    /// A command and the number of the ERROR that it draws.
-    Error(u8, u8),
+    /// A command, the number of the ERROR that it draws, its parameters.
+    Error(u8, u8, &'a [u8]),
     /// MOVE CURSOR off the screen.
     Limited(X, Y),
     Key(u8),
@@ -27,6 +28,7 @@ pub enum Event<'a> {
 pub struct Sight<'a> {
     pub screen: &'a Screen<'a>,
     pub det: bool,
+    pub agreed: Agreed,
     pub pad: &'a Pad,
 }
 

@@ -22,8 +22,8 @@ fn stdout(output: &Output) -> String {
     String::from_utf8_lossy(&output.stdout).into_owned()
 }
 
-/// Option 30 as open leaves it.
-const START: &str = " 0 - 00000000000000000000000000000000000000000000000000131100\n";
+/// Option 30 as open leaves it, and nothing agreed.
+const START: &str = " 0 - 00000000000000000000000000000000000000000000000000131100 0000000000\n";
 
 #[test]
 fn answers_a_script() {

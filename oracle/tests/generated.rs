@@ -1,12 +1,14 @@
 //! Generated scripts: never a bad line, nothing left out, and no wrong
 //! variant that passes for the right program.
 
+use oracle::command::error;
 use oracle::cover::Cover;
+use oracle::facilities::governing;
 use oracle::generate;
 use oracle::replay::Replay;
 use oracle::script::Line;
 use oracle::variant::{self, Variant};
-use oracle::watch::Unwatched;
+use oracle::watch::{Event, Sight, Unwatched, Watch};
 
 /// Seeds whose scripts leave nothing out.
 const FULL_SEEDS: [u64; 3] = [1, 2, 3];
@@ -70,6 +72,33 @@ fn most_calls_are_taken() {
         .filter_map(|line| replay.run(line, &mut Unwatched));
     let (taken, refused): (Vec<_>, Vec<_>) = outcomes.partition(|call| call.refusal.is_none());
     assert!(taken.len() > 3 * refused.len());
+}
+
+/// Governed commands: executed, and for want of a facility not.
+#[derive(Default)]
+struct Governed(u64, u64);
+
+impl Watch for Governed {
+    fn saw(&mut self, event: Event, _: Sight) {
+        match event {
+            Event::Executed(code, _) => {
+                self.0 += u64::from(governing(code, Variant::None).is_some());
+            }
+            Event::Error(_, error::NOT_AGREED, _) => self.1 += 1,
+            _ => {}
+        }
+    }
+}
+
+#[test]
+fn most_governed_commands_find_their_facility_agreed() {
+    let (mut governed, mut replay) = (Governed::default(), Replay::new(Variant::None));
+    for line in generate::script(5, 20_000) {
+        replay.run(&line, &mut governed);
+    }
+    let Governed(executed, missed) = governed;
+    assert!(executed > missed, "{executed} {missed}");
+    assert!(missed > executed / 10, "{executed} {missed}");
 }
 
 #[test]

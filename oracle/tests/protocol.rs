@@ -15,13 +15,15 @@ fn last(script: &str) -> String {
     answers(script).pop().expect("an answer")
 }
 
-/// Option 30 off, an empty line and all parameters at their starts.
-const START: &str = " 0 - 00000000000000000000000000000000000000000000000000131100";
+/// Option 30 off, an empty line, all parameters at their starts, nothing
+/// agreed.
+const START: &str = " 0 - 00000000000000000000000000000000000000000000000000131100 0000000000";
+const NO_MAPS: &str = " 0000000000";
 
 /// The last answer, which must end with those.
 fn last_base(script: &str) -> String {
     let answer = last(script);
-    let base = answer.strip_suffix(START).expect("no trace of option 30");
+    let base = answer.strip_suffix(START).expect("no trace of requests");
     base.into()
 }
 
@@ -83,6 +85,7 @@ fn set_lines() {
 /// The end of an answer: option 30, the line, the parameters.
 fn pad_fields(script: &str) -> String {
     let answer = last(script);
+    let answer = answer.strip_suffix(NO_MAPS).expect("nothing agreed");
     let fields: Vec<&str> = answer.split(' ').skip(12).collect();
     fields.join(" ")
 }
@@ -90,7 +93,7 @@ fn pad_fields(script: &str) -> String {
 #[test]
 fn option_30_shows_at_the_end() {
     let open = "open 37 1 37 37\npad 1\n";
-    let starts = &START[5..];
+    let starts = START[5..].strip_suffix(NO_MAPS).expect("starts alone");
     assert_eq!(
         pad_fields(&format!("{open}key 65 261")),
         format!("1 41 {starts}")
@@ -143,6 +146,27 @@ fn state_lines() {
     assert_eq!(held, "sub 20 2 010403000000");
 }
 
+/// The end of an answer: what is agreed.
+fn maps(script: &str) -> String {
+    let answer = last(script);
+    answer.rsplit(' ').next().expect("a field").into()
+}
+
+#[test]
+fn agreed_maps_show_at_the_end() {
+    let open = "open 1 1 1 1\nhost fffd14 90\n";
+    let all = "host fffa1401fffffff0fffa1402fffffff0fffa1403fffffff0fffa1404fffffffffff0 90";
+    assert_eq!(maps(open), "0000000000");
+    assert_eq!(maps(&format!("{open}{all}")), "361f3f9079");
+    let less = "host fffa1404108efff0fffa140107fff0 90";
+    assert_eq!(maps(&format!("{open}{all}\n{less}")), "061f3f1008");
+    assert_eq!(maps(&format!("{open}{all}\ndet 0\nhost - 9")), "361f3f9079");
+    assert_eq!(maps(&format!("{open}{all}\nkey 0 9")), "361f3f9079");
+    assert_eq!(maps(&format!("{open}{all}\nhost fffe14 90")), "0000000000");
+    assert_eq!(maps(&format!("{open}{all}\nopen 1 1 1 1")), "0000000000");
+    assert_eq!(maps(&format!("{open}{all}\nopen 1 1 1 2")), "0000000000");
+}
+
 /// Data and other commands leave it; the next option byte clears it.
 #[test]
 fn a_count_set_outside_a_subnegotiation_stays_until_the_option_byte() {
@@ -155,8 +179,10 @@ fn a_count_set_outside_a_subnegotiation_stays_until_the_option_byte() {
         last(&format!("{start}host fffa1411 9\nstate")),
         "sub 20 1 110000000000"
     );
+    let read = last_base(&format!("{start}host fffa140cfff0 9"));
+    assert_eq!(read, "0 6 0 a5a5a5a5a5a5a5a5a5 1 1 0 0 1 0 20 00");
     let read = last_base(&format!("{start}host fffa1411fff0 9"));
-    assert_eq!(read, "0 6 8 fffa14120000fff0a5 1 1 0 0 1 0 20 00");
+    assert_eq!(read, "0 6 8 fffa14291101fff0a5 1 1 0 0 1 0 20 00");
 }
 
 #[test]

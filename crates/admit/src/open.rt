@@ -6,6 +6,7 @@ ghost use Rattle.rules.specs.Operation.{outcome, opened};
 ghost use Rattle.command.specs.Frame.{lent};
 ghost use Rattle.admit.specs.Refused.{refusedAnswer};
 use crate::refuse::refuse_sizes;
+use command::facility::no_maps;
 use command::held::none;
 use edit::range::erase;
 use edit::range::format;
@@ -34,7 +35,7 @@ fn fresh_pad() -> Pad
     }
 }
 
-// Cursor (0,0), both options off, protection in effect, nothing half read.
+// Cursor (0,0), both options off, protection in effect, nothing agreed, nothing half read.
 fn fresh_session(width: u8, height: u8) -> Session
     ensures { λ r. ⌜ r ≡ fresh width height ⌝ }
 {
@@ -51,6 +52,7 @@ fn fresh_session(width: u8, height: u8) -> Session
             det: false,
             x3: false,
             suppressed: false,
+            received: no_maps(),
         },
         reader: Reader {
             phase: Phase::Rest,

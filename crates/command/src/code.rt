@@ -1,19 +1,38 @@
-// The list of subcommands: what a code means, and how many parameters it takes.
+// The list of subcommands: what a code means, how many parameters it takes, and the facility that governs it.
 ghost use mathlib.Core.Path.{_≡_};
 ghost use Rattle.rules.specs.Command.{meaning, rowOf};
+use crate::facility::BACK_TAB;
+use crate::facility::CHAR_INSERT_DELETE;
+use crate::facility::ERASE_FIELD;
+use crate::facility::ERASE_LINE;
+use crate::facility::ERASE_REST_OF_FIELD;
+use crate::facility::ERASE_REST_OF_LINE;
+use crate::facility::ERASE_REST_OF_SCREEN;
+use crate::facility::INCREMENTAL_ADDRESSING;
+use crate::facility::PROTECTION;
+use crate::facility::PROTECTION_ON_OFF;
+use crate::facility::READ_CURSOR_ADDRESS;
+use crate::facility::REPEATING;
+use crate::facility::TRANSMIT_FIELD;
+use crate::facility::TRANSMIT_LINE;
+use crate::facility::TRANSMIT_REST_OF_FIELD;
+use crate::facility::TRANSMIT_REST_OF_LINE;
+use crate::facility::TRANSMIT_REST_OF_SCREEN;
 use edit::range::Shift;
 use rules::Area;
 use rules::Code;
 use rules::Command;
 use rules::Destination;
 use rules::Facility;
+use rules::Governor;
 
-fn known(command: Command, parameters: u8) -> Code
-    ensures { λ r. ⌜ r ≡ Code.Known command parameters ⌝ }
+fn known(command: Command, parameters: u8, governor: Governor) -> Code
+    ensures { λ r. ⌜ r ≡ Code.Known command parameters governor ⌝ }
 {
     Code::Known {
         command: command,
         parameters: parameters,
+        governor: governor,
     }
 }
 
@@ -21,38 +40,70 @@ pub fn command_of(code: u8) -> Code
     ensures { λ r. ⌜ r ≡ meaning (rowOf code) ⌝ }
 {
     match code {
-        1 => known(Command::Facilities(Facility::Editing), 1),
-        2 => known(Command::Facilities(Facility::Erasing), 1),
-        3 => known(Command::Facilities(Facility::Transmitting), 1),
-        4 => known(Command::Facilities(Facility::Formatting), 2),
-        5 => known(Command::MoveCursor, 2),
-        8 => known(Command::Move(Destination::Up), 0),
-        9 => known(Command::Move(Destination::Down), 0),
-        10 => known(Command::Move(Destination::Left), 0),
-        11 => known(Command::Move(Destination::Right), 0),
-        12 => known(Command::Move(Destination::Home), 0),
-        15 => known(Command::CharShift(Shift::Insertion), 0),
-        16 => known(Command::CharShift(Shift::Deletion), 0),
-        17 => known(Command::ReadCursor, 0),
-        19 => known(Command::Move(Destination::ReverseTab), 0),
-        20 => known(Command::Transmit(Area::WholeScreen), 0),
-        21 => known(Command::Transmit(Area::Unprotected), 0),
-        22 => known(Command::Transmit(Area::WholeLine), 0),
-        23 => known(Command::Transmit(Area::WholeField), 0),
-        24 => known(Command::Transmit(Area::RestOfScreen), 0),
-        25 => known(Command::Transmit(Area::RestOfLine), 0),
-        26 => known(Command::Transmit(Area::RestOfField), 0),
-        29 => known(Command::Erase(Area::WholeScreen), 0),
-        30 => known(Command::Erase(Area::WholeLine), 0),
-        31 => known(Command::Erase(Area::WholeField), 0),
-        32 => known(Command::Erase(Area::RestOfScreen), 0),
-        33 => known(Command::Erase(Area::RestOfLine), 0),
-        34 => known(Command::Erase(Area::RestOfField), 0),
-        35 => known(Command::Erase(Area::Unprotected), 0),
-        36 => known(Command::FormatData, 4),
-        37 => known(Command::Repeat, 2),
-        38 => known(Command::SuppressProtection, 1),
-        41 => known(Command::Error, 2),
+        1 => known(
+            Command::Facilities(Facility::Editing),
+            1,
+            Governor::Ungoverned,
+        ),
+        2 => known(
+            Command::Facilities(Facility::Erasing),
+            1,
+            Governor::Ungoverned,
+        ),
+        3 => known(
+            Command::Facilities(Facility::Transmitting),
+            1,
+            Governor::Ungoverned,
+        ),
+        4 => known(
+            Command::Facilities(Facility::Formatting),
+            2,
+            Governor::Ungoverned,
+        ),
+        5 => known(Command::MoveCursor, 2, Governor::Ungoverned),
+        8 => known(Command::Move(Destination::Up), 0, INCREMENTAL_ADDRESSING),
+        9 => known(Command::Move(Destination::Down), 0, INCREMENTAL_ADDRESSING),
+        10 => known(Command::Move(Destination::Left), 0, INCREMENTAL_ADDRESSING),
+        11 => known(Command::Move(Destination::Right), 0, INCREMENTAL_ADDRESSING),
+        12 => known(Command::Move(Destination::Home), 0, Governor::Ungoverned),
+        15 => known(Command::CharShift(Shift::Insertion), 0, CHAR_INSERT_DELETE),
+        16 => known(Command::CharShift(Shift::Deletion), 0, CHAR_INSERT_DELETE),
+        17 => known(Command::ReadCursor, 0, READ_CURSOR_ADDRESS),
+        19 => known(Command::Move(Destination::ReverseTab), 0, BACK_TAB),
+        20 => known(
+            Command::Transmit(Area::WholeScreen),
+            0,
+            Governor::Ungoverned,
+        ),
+        21 => known(Command::Transmit(Area::Unprotected), 0, PROTECTION),
+        22 => known(Command::Transmit(Area::WholeLine), 0, TRANSMIT_LINE),
+        23 => known(Command::Transmit(Area::WholeField), 0, TRANSMIT_FIELD),
+        24 => known(
+            Command::Transmit(Area::RestOfScreen),
+            0,
+            TRANSMIT_REST_OF_SCREEN,
+        ),
+        25 => known(
+            Command::Transmit(Area::RestOfLine),
+            0,
+            TRANSMIT_REST_OF_LINE,
+        ),
+        26 => known(
+            Command::Transmit(Area::RestOfField),
+            0,
+            TRANSMIT_REST_OF_FIELD,
+        ),
+        29 => known(Command::Erase(Area::WholeScreen), 0, Governor::Ungoverned),
+        30 => known(Command::Erase(Area::WholeLine), 0, ERASE_LINE),
+        31 => known(Command::Erase(Area::WholeField), 0, ERASE_FIELD),
+        32 => known(Command::Erase(Area::RestOfScreen), 0, ERASE_REST_OF_SCREEN),
+        33 => known(Command::Erase(Area::RestOfLine), 0, ERASE_REST_OF_LINE),
+        34 => known(Command::Erase(Area::RestOfField), 0, ERASE_REST_OF_FIELD),
+        35 => known(Command::Erase(Area::Unprotected), 0, PROTECTION),
+        36 => known(Command::FormatData, 4, Governor::Ungoverned),
+        37 => known(Command::Repeat, 2, REPEATING),
+        38 => known(Command::SuppressProtection, 1, PROTECTION_ON_OFF),
+        41 => known(Command::Error, 2, Governor::Ungoverned),
         _ => Code::Unknown,
     }
 }

@@ -8,6 +8,7 @@ ghost use Rattle.words.specs.Words.{if_then_else_, between};
 ghost use Rattle.rules.specs.Command.{formatCount, valueFault, faultOf};
 ghost use Rattle.command.specs.Frame.{seen};
 use crate::character::is_printable;
+use crate::facility::is_agreed;
 use crate::frame::cursor_cell;
 use crate::held::first_parameter;
 use crate::held::format_count;
@@ -16,6 +17,7 @@ use crate::held::second_parameter;
 use rules::Command;
 use rules::Fault;
 use rules::Frame;
+use rules::Governor;
 use rules::Held;
 use screen::cell::on_screen;
 use telnet::code::DONT;
@@ -79,10 +81,23 @@ fn value_fault(frame: Frame, attrs: &[u8], command: Command, held: Held) -> Faul
     }
 }
 
-// The ERROR that a known command draws: by its parameters' count, then by their values. The code is among the bytes held.
-pub fn fault_of(frame: Frame, attrs: &[u8], command: Command, parameters: u8, held: Held) -> Fault
-    ensures { λ r. ⌜ r ≡ faultOf (seen frame (attrs .entry)) command parameters held ⌝ }
+// The ERROR that a known command draws: by its facility, by its parameters' count, then by their values. The code is among the bytes
+// held.
+pub fn fault_of(
+    frame: Frame,
+    attrs: &[u8],
+    command: Command,
+    parameters: u8,
+    governor: Governor,
+    held: Held,
+) -> Fault
+    ensures { λ r. ⌜ r ≡ faultOf (seen frame (attrs .entry)) command parameters governor held ⌝ }
 {
+    let maps = frame.received;
+    let agreed = is_agreed(maps, governor);
+    if !agreed {
+        return Fault::NotAgreed;
+    }
     let wanted = parameters as usize + 1;
     let count = held.count as usize;
     if count < wanted {

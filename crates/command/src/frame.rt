@@ -1,10 +1,11 @@
 // The frame with one thing changed, the cursor's cell, and whether the cursor and the attribute bytes are the screen's.
 ghost use mathlib.Core.Path.{_≡_};
-ghost use Rattle.rules.specs.Session.{placed, switched, withX3};
+ghost use Rattle.rules.specs.Session.{placed, switched, withX3, withReceived};
 ghost use Rattle.rules.specs.Cursor.{cursorGuarded};
 ghost use Rattle.screen.specs.Cells.{cellOf};
 ghost use Rattle.command.specs.Frame.{seen, fitting};
 use rules::Frame;
+use rules::Maps;
 use screen::attribute::is_guarded;
 use screen::cell::Place;
 use screen::cell::cell_of;
@@ -23,15 +24,10 @@ pub fn moved(frame: Frame, cursor: Place) -> Frame
 pub fn switched(frame: Frame, det: bool, suppressed: bool) -> Frame
     ensures { λ r. ⌜ r ≡ switched frame det suppressed ⌝ }
 {
-    let cursor = frame.cursor;
-    Frame {
-        width: frame.width,
-        height: frame.height,
-        cursor: cursor,
-        det: det,
-        x3: frame.x3,
-        suppressed: suppressed,
-    }
+    let mut next = frame;
+    next.det = det;
+    next.suppressed = suppressed;
+    next
 }
 
 // The frame with option 30 on or off.
@@ -40,6 +36,15 @@ pub fn with_x3(frame: Frame, x3: bool) -> Frame
 {
     let mut next = frame;
     next.x3 = x3;
+    next
+}
+
+// The frame with these maps received.
+pub fn with_received(frame: Frame, received: Maps) -> Frame
+    ensures { λ r. ⌜ r ≡ withReceived frame received ⌝ }
+{
+    let mut next = frame;
+    next.received = received;
     next
 }
 

@@ -29,21 +29,13 @@ pub const FN: u8 = 40;
 
 pub const ERROR: u8 = 41;
 
-// The terminal's own maps.
-pub const EDIT_MAP: u8 = 54;
-
-pub const ERASE_MAP: u8 = 31;
-
-pub const TRANSMIT_MAP: u8 = 63;
-
-pub const FORMAT_MAP: [u8; 2] = [144, 121];
-
 // ERROR's numbers; 0 where there is none.
 pub fn fault_number(fault: Fault) -> u8
     ensures { λ r. ⌜ r ≡ faultNumber fault ⌝ }
 {
     match fault {
         Fault::NoFault => 0,
+        Fault::NotAgreed => 1,
         Fault::UnknownCode => 2,
         Fault::OffScreen => 3,
         Fault::TooManyParameters => 9,

@@ -14,10 +14,11 @@ use Rattle.words.proofs.Laws.{either}
 use Rattle.screen.proofs.CellLaws.{line-within}
 use Rattle.screen.proofs.FieldLaws.{end-gt}
 use Rattle.rules.specs.declared.Command.{Command}
+use Rattle.rules.specs.declared.Governor.{Governor}
 use Rattle.rules.specs.declared.Code.{Code}
 use Rattle.rules.specs.declared.Code.the-variants.{Known, Unknown}
 use Rattle.rules.specs.declared.Fault.{Fault}
-use Rattle.rules.specs.declared.Fault.the-variants.{NoFault, UnknownCode, OffScreen, TooManyParameters, TooFewParameters, BadValue, BadMap}
+use Rattle.rules.specs.declared.Fault.the-variants.{NoFault, NotAgreed, UnknownCode, OffScreen, TooManyParameters, TooFewParameters, BadValue, BadMap}
 use Rattle.rules.proofs.Fault.{the-type}
 use Rattle.rules.specs.declared.Frame.{Frame}
 use Rattle.rules.specs.declared.Held.{Held}
@@ -114,40 +115,42 @@ repeated {v} {n} {c} = record { meaning = as-shown (hostCharacters n v c) (repea
 -- ---- ERRORs
 
 -- a decision by the fault that the view shows
-pub judged-by : {v : View} {d : Decision} {c : Command} {n : ℕ} (held : Held) {fault : Fault} → fault ≡ faultOf v c n held
-    → ((r : Row) → r .command ≡ c → Decides v d (λ w. judged w r held fault)) → Judges v d c n held
-judged-by {v} held e by r m p =
-    recast (by r m) (ap (λ (x : Fault). shown (judged v r held x)) (e ∙ rw (m, p)))
+pub judged-by : {v : View} {d : Decision} {c : Command} {n : ℕ} {g : Governor} (held : Held) {fault : Fault} → fault ≡ faultOf v c n g held
+    → ((r : Row) → r .command ≡ c → Decides v d (λ w. judged w r held fault)) → Judges v d c n g held
+judged-by {v} held e by r m p q =
+    recast (by r m) (ap (λ (x : Fault). shown (judged v r held x)) (e ∙ rw (m, p, q)))
 
 -- a fault but the first and MOVE CURSOR's is an ERROR, and nothing changes
-pub errs : {v : View} {d : Decision} (r : Row) (h : Held) (fault : Fault) → OneOf (1 ∷ 3 ∷ 4 ∷ 5 ∷ 6 ∷ []) (tagOf the-type fault)
+pub errs : {v : View} {d : Decision} (r : Row) (h : Held) (fault : Fault) → OneOf (1 ∷ 2 ∷ 4 ∷ 5 ∷ 6 ∷ 7 ∷ []) (tagOf the-type fault)
     → Decides v d (λ w. erring w (codeIn h) fault) → Decides v d (λ w. judged w r h fault)
 unfolding judged
-errs r h NoFault o e = absurd (miss (1 ∷ 3 ∷ 4 ∷ 5 ∷ 6 ∷ []) 0 tt o)
+errs r h NoFault o e = absurd (miss (1 ∷ 2 ∷ 4 ∷ 5 ∷ 6 ∷ 7 ∷ []) 0 tt o)
+errs r h NotAgreed o e = e
 errs r h UnknownCode o e = e
-errs r h OffScreen o e = absurd (miss (1 ∷ 3 ∷ 4 ∷ 5 ∷ 6 ∷ []) 2 tt o)
+errs r h OffScreen o e = absurd (miss (1 ∷ 2 ∷ 4 ∷ 5 ∷ 6 ∷ 7 ∷ []) 3 tt o)
 errs r h TooManyParameters o e = e
 errs r h TooFewParameters o e = e
 errs r h BadValue o e = e
 errs r h BadMap o e = e
 
 -- a code is not both known and unknown
-unknown : {c : Command} {n : ℕ} → Known c n ≡ Unknown → ⊥
-unknown {c} {n} e = let same : _≡_ {A = ℕ} 0 1 = ap isKnown e in omega arith
+unknown : {c : Command} {n : ℕ} {g : Governor} → Known c n g ≡ Unknown → ⊥
+unknown e = let same : _≡_ {A = ℕ} 0 1 = ap isKnown e in omega arith
   where
     isKnown : Code → ℕ
-    isKnown (Known c n) = 0
+    isKnown (Known c n g) = 0
     isKnown Unknown = 1
 
 -- a decision by what the list says of the code
-pub looked-known : {v : View} {d : Decision} (held : Held) {c : Command} {n : ℕ} (l : Listed) → Known c n ≡ meaning l
-    → Judges v d c n held → Decides v d (λ w. looked w l held)
+pub looked-known : {v : View} {d : Decision} (held : Held) {c : Command} {n : ℕ} {g : Governor} (l : Listed) → Known c n g ≡ meaning l
+    → Judges v d c n g held → Decides v d (λ w. looked w l held)
 unfolding meaning looked
-looked-known held {c} {n} (listed r) e by =
+looked-known held {c} {n} {g} (listed r) e by =
     let same : r .command ≡ c = cc in
     let count : r .parameters ≡ n = cc in
-    by r same count
-looked-known held {c} {n} unlisted e by = absurd (unknown e)
+    let governs : r .governor ≡ g = cc in
+    by r same count governs
+looked-known held unlisted e by = absurd (unknown e)
 
 pub looked-unknown : {v : View} {d : Decision} (held : Held) (l : Listed) → Unknown ≡ meaning l
     → Decides v d (λ w. erring w (codeIn held) UnknownCode) → Decides v d (λ w. looked w l held)

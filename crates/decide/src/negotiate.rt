@@ -13,7 +13,9 @@ use crate::decision::Format;
 use crate::decision::Say;
 use crate::decision::quiet;
 use crate::decision::saying;
+use command::facility::no_maps;
 use command::frame::switched;
+use command::frame::with_received;
 use command::frame::with_x3;
 use command::number::DET;
 use command::number::X3;
@@ -75,12 +77,12 @@ fn turned_on(frame: Frame, option: TelnetOption) -> Frame
     }
 }
 
-// With DET off, protection is in effect again.
+// With DET off, protection is in effect again, and nothing is agreed.
 fn turned_off(frame: Frame, option: TelnetOption) -> Frame
     ensures { λ r. ⌜ r ≡ turned frame option false ⌝ }
 {
     match option {
-        TelnetOption::Det => switched(frame, false, false),
+        TelnetOption::Det => with_received(switched(frame, false, false), no_maps()),
         TelnetOption::X3 => with_x3(frame, false),
         TelnetOption::Other => frame,
     }

@@ -3,12 +3,13 @@ ghost use mathlib.Core.Path.{_≡_};
 ghost use mathlib.Core.List.{List, [], _∷_};
 ghost use Prim.Native.Nat.{ℕ};
 ghost use Rattle.rules.specs.Session.{view};
-ghost use Rattle.rules.specs.Number.{cursorPosition, error, ownMap, faultNumber};
-ghost use Rattle.rules.specs.Effect.{message, saying};
+ghost use Rattle.rules.specs.Number.{cursorPosition, error, faultNumber};
+ghost use Rattle.rules.specs.Facility.{ownMap};
+ghost use Rattle.rules.specs.Effect.{message};
 ghost use Rattle.rules.specs.Subcommand.{suppressing, obeyed, subcommand};
 ghost use Rattle.command.specs.Frame.{seen};
 ghost use Rattle.command.specs.inner.Frame.{Fits};
-ghost use Rattle.decide.specs.Decision.{Decides, whereFits, endedDet};
+ghost use Rattle.decide.specs.Decision.{partsOf, Sendable, Decides, whereFits, endedDet};
 ghost use Rattle.decide.specs.inner.Decision.{decision, Judges};
 use crate::change::char_shift;
 use crate::change::erase;
@@ -23,73 +24,74 @@ use crate::decision::quiet;
 use crate::decision::saying;
 use crate::transmit::transmit;
 use command::code::command_of;
+use command::facility::OWN;
+use command::facility::received;
 use command::fault::fault_of;
 use command::fault::format_end;
 use command::frame::cursor_cell;
 use command::frame::fits;
 use command::frame::switched;
+use command::frame::with_received;
 use command::held::code;
 use command::held::first_parameter;
 use command::held::second_parameter;
 use command::number::CURSOR_POSITION;
 use command::number::DET;
 use command::number::EDIT_FACILITIES;
-use command::number::EDIT_MAP;
 use command::number::ERASE_FACILITIES;
-use command::number::ERASE_MAP;
 use command::number::ERROR;
 use command::number::FORMAT_FACILITIES;
-use command::number::FORMAT_MAP;
 use command::number::SUPPRESS_PROTECTION;
 use command::number::TRANSMIT_FACILITIES;
-use command::number::TRANSMIT_MAP;
 use command::number::fault_number;
 use rules::Code;
 use rules::Command;
 use rules::Facility;
 use rules::Fault;
 use rules::Frame;
+use rules::Governor;
 use rules::Held;
 use telnet::code::DO;
 use telnet::code::DONT;
 use telnet::code::WILL;
 use telnet::code::WONT;
 
-// 1 to 4: the terminal's own map.
-fn facilities(frame: Frame, facility: Facility) -> Decision
-    ensures { λ r. ⌜ ((attrs : List ℕ) → Decides (view frame attrs) r (λ v. saying v (message (ownMap facility) ∷ []))) ⌝ }
+// The terminal's own map of a class, after its code.
+fn own_map(facility: Facility) -> Say
+    ensures { λ r. ⌜ ((attrs : List ℕ) → (partsOf attrs r ≡ message (ownMap facility) ∷ []) × Sendable attrs r) ⌝ }
 {
     match facility {
-        Facility::Editing => saying(
-            frame,
-            Say::Two {
-                code: EDIT_FACILITIES,
-                a: EDIT_MAP,
-            },
-        ),
-        Facility::Erasing => saying(
-            frame,
-            Say::Two {
-                code: ERASE_FACILITIES,
-                a: ERASE_MAP,
-            },
-        ),
-        Facility::Transmitting => saying(
-            frame,
-            Say::Two {
-                code: TRANSMIT_FACILITIES,
-                a: TRANSMIT_MAP,
-            },
-        ),
-        Facility::Formatting => saying(
-            frame,
-            Say::Three {
-                code: FORMAT_FACILITIES,
-                a: FORMAT_MAP[0],
-                b: FORMAT_MAP[1],
-            },
-        ),
+        Facility::Editing => Say::Two {
+            code: EDIT_FACILITIES,
+            a: OWN.edit,
+        },
+        Facility::Erasing => Say::Two {
+            code: ERASE_FACILITIES,
+            a: OWN.erase,
+        },
+        Facility::Transmitting => Say::Two {
+            code: TRANSMIT_FACILITIES,
+            a: OWN.transmit,
+        },
+        Facility::Formatting => Say::Three {
+            code: FORMAT_FACILITIES,
+            a: OWN.format0,
+            b: OWN.format1,
+        },
     }
+}
+
+// 1 to 4: the map received is kept, and the terminal's own answered.
+fn facilities(frame: Frame, facility: Facility, held: Held) -> Decision
+    ensures { λ r. ⌜ ((attrs : List ℕ) → Decides (view frame attrs) r (λ v. obeyed v (Command.Facilities facility) held)) ⌝ }
+{
+    let maps = received(
+        frame.received,
+        facility,
+        first_parameter(held),
+        second_parameter(held),
+    );
+    saying(with_received(frame, maps), own_map(facility))
 }
 
 // 17: answer 18 x y.
@@ -169,7 +171,7 @@ fn obey(frame: Frame, attrs: &[u8], command: Command, held: Held) -> Decision
     ensures { λ r. ⌜ Decides (seen frame (attrs .entry)) r (λ v. obeyed v command held) ⌝ }
 {
     match command {
-        Command::Facilities(facility) => facilities(frame, facility),
+        Command::Facilities(facility) => facilities(frame, facility, held),
         Command::MoveCursor => quiet(limited(frame, held)),
         Command::Move(to) => quiet(sent_to(frame, attrs, to)),
         Command::CharShift(shift) => char_shift(frame, attrs, shift),
@@ -204,11 +206,18 @@ fn err(frame: Frame, code: u8, fault: Fault) -> Decision
 }
 
 // A known command: obeyed, or an ERROR, which MOVE CURSOR draws after it has limited.
-fn judge(frame: Frame, attrs: &[u8], command: Command, parameters: u8, held: Held) -> Decision
+fn judge(
+    frame: Frame,
+    attrs: &[u8],
+    command: Command,
+    parameters: u8,
+    governor: Governor,
+    held: Held,
+) -> Decision
     requires { ⌜ Fits (seen frame attrs) ⌝ }
-    ensures { λ r. ⌜ Judges (seen frame (attrs .entry)) r command parameters held ⌝ }
+    ensures { λ r. ⌜ Judges (seen frame (attrs .entry)) r command parameters governor held ⌝ }
 {
-    let fault = fault_of(frame, attrs, command, parameters, held);
+    let fault = fault_of(frame, attrs, command, parameters, governor, held);
     let number = code(held);
     match fault {
         Fault::NoFault => obey(frame, attrs, command, held),
@@ -232,7 +241,8 @@ fn obey_held(frame: Frame, attrs: &[u8], held: Held) -> Decision
         Code::Known {
             command,
             parameters,
-        } => judge(frame, attrs, command, parameters, held),
+            governor,
+        } => judge(frame, attrs, command, parameters, governor, held),
         Code::Unknown => err(frame, number, Fault::UnknownCode),
     }
 }

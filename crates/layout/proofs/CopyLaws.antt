@@ -4,7 +4,7 @@ use Rattle.layout.proofs.Kit.{length, take, drop, replicate, length-tak
 use Rattle.layout.proofs.Kit.{sets, sets-eq, length-sets, paste, take-length, tabulate, tabulated}
 use Rattle.layout.proofs.Kit.{Emitted, emitted-then, emitted-whole}
 use Rattle.rules.specs.declared.Session.{Session}
-use Rattle.layout.specs.Layout.{sessionLength, byteAt, bytesFrom, frameBytes, readerBytes, padBytes, encoded, stored}
+use Rattle.layout.specs.Layout.{sessionLength, byteAt, bytesFrom, frameBytes, readerBytes, padBytes, mapsBytes, encoded, stored}
 use Rattle.layout.specs.Layout.{decoded, layouts}
 use Rattle.layout.proofs.LayoutLaws.{stored-there}
 
@@ -50,12 +50,13 @@ module _ (bytes : List ℕ) where
 pub pasted-all : (xs buf : List ℕ) (at : ℕ) → at + length xs ≤ length buf → paste buf at xs (length xs) ≡ sets buf at xs
 pasted-all xs buf at h = rw (take-length xs) (sym (sets-eq xs buf at h))
 
--- the frame, the reader and the PAD, one behind the other over as many bytes
-pub session-stored : (s : Session) {b b₁ b₂ b₃ : List ℕ} → length b ≡ sessionLength → Emitted b 0 (frameBytes (s .frame)) b₁ 8
-    → Emitted b₁ 8 (readerBytes (s .reader)) b₂ 18 → Emitted b₂ 18 (padBytes (s .pad)) b₃ 206 → b₃ ≡ stored s b
+-- the frame, the reader, the PAD and the maps, one behind the other over as many bytes
+pub session-stored : (s : Session) {b b₁ b₂ b₃ b₄ : List ℕ} → length b ≡ sessionLength → Emitted b 0 (frameBytes (s .frame)) b₁ 8
+    → Emitted b₁ 8 (readerBytes (s .reader)) b₂ 18 → Emitted b₂ 18 (padBytes (s .pad)) b₃ 206
+    → Emitted b₃ 206 (mapsBytes (s .frame .received)) b₄ 211 → b₄ ≡ stored s b
 unfolding encoded
-session-stored s {b} l f r p =
-    let all = emitted-then f (emitted-then r p) in
+session-stored s {b} l f r p m =
+    let all = emitted-then f (emitted-then r (emitted-then p m)) in
     let long : length (encoded s) ≡ length b = omega (arith, all .next, l) in
     let rest : drop (length (encoded s)) b ≡ [] = drop-of-length-le b {i = length (encoded s)} (omega (arith, long)) in
     emitted-whole (omega (arith, long)) all ∙ rw (rest, stored-there s b l) (append-nil (encoded s))

@@ -15,7 +15,7 @@ use Rattle.rules.specs.declared.Session.{Session}
 use Rattle.rules.specs.Session.{fresh}
 use Rattle.layout.specs.Layout.{sessionLength, version, bitOf, phaseBytes, stageAt, stageBytes, encoded, stored, byteAt, bytesFrom}
 use Rattle.layout.specs.Layout.{isFlag, hasFlags, isPhase, isStage, hasPlaces, isSession}
-use Rattle.layout.specs.Layout.{phaseOf, stageOf, frameIn, readerIn, padIn, decoded, layouts}
+use Rattle.layout.specs.Layout.{phaseOf, stageOf, mapsIn, frameIn, readerIn, padIn, decoded, layouts}
 
 -- n bytes are those that are read from them
 abbrev Spelled : List ℕ → ℕ → Type 0
@@ -76,7 +76,7 @@ module _ (s : Session) (z : Sized s) where
   copy : Spelled (s .pad .message .copy .held) 28
   copy = read-whole _ 28 (z .copy)
 
-  -- a session's bytes are 206
+  -- a session's bytes are 211
   pub encoded-length : length (encoded s) ≡ sessionLength
   unfolding encoded tabulate
   encoded-length = rw (held, values, line, copy)
@@ -98,9 +98,13 @@ module _ (s : Session) (z : Sized s) where
         stage-back (s .pad .message .stage) .1,
       )
 
+  maps-back : mapsIn (encoded s) ≡ s .frame .received
+  unfolding mapsIn encoded tabulate
+  maps-back = rw (held, values, line, copy)
+
   frame-back : frameIn (encoded s) ≡ s .frame
   unfolding frameIn encoded
-  frame-back = rw (flag-back (s .frame .det) .0, flag-back (s .frame .x3) .0, flag-back (s .frame .suppressed) .0)
+  frame-back = rw (flag-back (s .frame .det) .0, flag-back (s .frame .x3) .0, flag-back (s .frame .suppressed) .0, maps-back)
 
   reader-back : readerIn (encoded s) ≡ s .reader
   unfolding readerIn encoded tabulate
@@ -188,7 +192,7 @@ module _ (b : List ℕ) (h : isSession b ≡ true) where
   abbrev at : ℕ → ℕ
   at = byteAt b
 
-  -- bytes that are a session are 206
+  -- bytes that are a session are 211
   pub session-length : length b ≡ sessionLength
   unfolding isSession
   session-length = eqb-true _ _ (and-left (eqb (length b) sessionLength) _ h)
@@ -213,7 +217,7 @@ module _ (b : List ℕ) (h : isSession b ≡ true) where
 
   -- and those of the session read from them
   pub encoded-decoded : encoded (decoded b) ≡ b
-  unfolding encoded decoded frameIn readerIn padIn tabulate
+  unfolding encoded decoded mapsIn frameIn readerIn padIn tabulate
   encoded-decoded =
       let phase = and-left (isPhase (at 8) (at 9)) _ places in
       let stage = and-right (isPhase (at 8) (at 9)) _ places in
@@ -226,7 +230,7 @@ module _ (b : List ℕ) (h : isSession b ≡ true) where
         option-kept (at 8) (at 9) phase,
         stage-kept (at 175) (at 176) (at 177) stage,
       )
-      (subst (λ (v : ℕ). v ∷ bytesFrom b 1 205 ≡ b) version-right (sym (read-whole b 206 session-length)))
+      (subst (λ (v : ℕ). v ∷ bytesFrom b 1 210 ≡ b) version-right (sym (read-whole b 211 session-length)))
 
 -- ---- what a caller keeps
 

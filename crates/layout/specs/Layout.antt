@@ -1,6 +1,6 @@
--- A session as a byte string: 206 bytes that the caller keeps.
+-- A session as a byte string: 211 bytes that the caller keeps.
 --
---   0           the layout's version, 2
+--   0           the layout's version, 3
 --   1, 2        M, N
 --   3, 4        the cursor's x, y
 --   5, 6, 7     DET on, option 30 on, protection suppressed: 0 no, 1 yes
@@ -14,6 +14,7 @@
 --   175         what is next in a message of option 30: 0 its code, 1 a parameter, 2 a value
 --   176, 177    the message's code, 0 where it is next; the parameter that waits for its value, 0 where none does
 --   178 to 205  the message's copy of the 28 values
+--   206 to 210  the facility maps received, of any value: edit, erase, transmit, the two bytes of format
 use mathlib.Core.Bool.{Bool, true, false, _&&_, _||_}
 use mathlib.Core.List.{List, [], _∷_, _++_}
 use Prim.Native.Nat.{ℕ, _+_}
@@ -29,6 +30,7 @@ use Rattle.pad.specs.declared.message.Stage.{Stage}
 use Rattle.pad.specs.declared.message.Stage.the-variants.{Code, Parameter, Value}
 use Rattle.words.specs.Words.{if_then_else_, tabulate}
 use Rattle.screen.specs.Cells.{place}
+use Rattle.rules.specs.declared.Maps.{Maps}
 use Rattle.rules.specs.declared.Frame.{Frame}
 use Rattle.rules.specs.declared.Reader.{Reader}
 use Rattle.rules.specs.declared.Pad.{Pad}
@@ -38,11 +40,11 @@ use Rattle.layout.specs.declared.number.PhaseBytes.{PhaseBytes}
 use Rattle.layout.specs.declared.number.StageBytes.{StageBytes}
 
 abbrev pub sessionLength : ℕ
-sessionLength = 206
+sessionLength = 211
 
--- The layout before this one had 15 bytes and no version.
+-- The layouts before this one: 15 bytes and no version, then 206 bytes and version 2, with no maps.
 abbrev pub version : ℕ
-version = 2
+version = 3
 
 -- ---- from a session to its bytes
 
@@ -79,7 +81,7 @@ stageBytes Code = stageAt 0 0 0
 stageBytes (Parameter code) = stageAt 1 code 0
 stageBytes (Value code parameter) = stageAt 2 code parameter
 
--- 0 to 7
+-- 0 to 7: the frame, but for its maps
 abbrev pub frameBytes : Frame → List ℕ
 frameBytes f =
     version ∷ f .width ∷ f .height ∷ f .cursor .x .0 ∷ f .cursor .y .0 ∷ bitOf (f .det) ∷ bitOf (f .x3) ∷ bitOf (f .suppressed) ∷ []
@@ -104,8 +106,12 @@ messageBytes m =
 abbrev pub padBytes : Pad → List ℕ
 padBytes p = p .values .held ++ (lineBytes (p .line) ++ messageBytes (p .message))
 
+-- 206 to 210
+abbrev pub mapsBytes : Maps → List ℕ
+mapsBytes m = m .edit ∷ m .erase ∷ m .transmit ∷ m .format0 ∷ m .format1 ∷ []
+
 unfoldable pub encoded : Session → List ℕ
-encoded s = frameBytes (s .frame) ++ (readerBytes (s .reader) ++ padBytes (s .pad))
+encoded s = frameBytes (s .frame) ++ (readerBytes (s .reader) ++ (padBytes (s .pad) ++ mapsBytes (s .frame .received)))
 
 -- what a place for a session then holds: one of another length is left as it is
 unfoldable pub stored : Session → List ℕ → List ℕ
@@ -163,6 +169,11 @@ phaseOf number option =
 unfoldable pub stageOf : ℕ → ℕ → ℕ → Stage
 stageOf number code parameter = if eqb number 0 then Code else if eqb number 1 then Parameter code else Value code parameter
 
+unfoldable pub mapsIn : List ℕ → Maps
+mapsIn bytes =
+    let at = byteAt bytes in
+    record { edit = at 206; erase = at 207; transmit = at 208; format0 = at 209; format1 = at 210 }
+
 unfoldable pub frameIn : List ℕ → Frame
 frameIn bytes =
     let at = byteAt bytes in
@@ -173,6 +184,7 @@ frameIn bytes =
       det = eqb (at 5) 1;
       x3 = eqb (at 6) 1;
       suppressed = eqb (at 7) 1;
+      received = mapsIn bytes;
     }
 
 unfoldable pub readerIn : List ℕ → Reader
@@ -195,5 +207,5 @@ decoded bytes = session (frameIn bytes) (readerIn bytes) (padIn bytes)
 
 -- names all of the above: under `unfolding layouts` a proof computes with them
 unfoldable pub layouts : ℕ
-unfolding verbNumber phaseBytes stageBytes encoded stored isSession phaseOf stageOf frameIn readerIn padIn decoded
+unfolding verbNumber phaseBytes stageBytes encoded stored isSession phaseOf stageOf mapsIn frameIn readerIn padIn decoded
 layouts = 0

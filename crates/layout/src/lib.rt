@@ -1,4 +1,4 @@
-// A session as a byte string: 206 bytes that the caller keeps. The table at the head of specs/Layout.antt says what stands where.
+// A session as a byte string: 211 bytes that the caller keeps. The table at the head of specs/Layout.antt says what stands where.
 // The three functions ask nothing of their caller.
 ghost use mathlib.Core.Path.{_≡_};
 ghost use Rattle.layout.specs.Layout.{isSession, decoded, stored};
@@ -9,19 +9,20 @@ mod read;
 mod valid;
 mod write;
 
-use read::padded;
 use read::session_in;
+use read::session_in_short;
 use rules::Session;
 use valid::has_flags;
 use valid::has_places;
 use write::put_frame;
+use write::put_maps;
 use write::put_pad;
 use write::put_reader;
 
-pub const SESSION_LENGTH: usize = 206;
+pub const SESSION_LENGTH: usize = 211;
 
-// The 15 bytes of before had none.
-pub(crate) const VERSION: u8 = 2;
+// The first layout, of 15 bytes, had none; 2 had 206 bytes.
+pub(crate) const VERSION: u8 = 3;
 
 // Are the bytes those of a session?
 pub fn is_session(bytes: &[u8]) -> bool
@@ -47,8 +48,7 @@ pub fn decode(bytes: &[u8]) -> Session
     if SESSION_LENGTH <= bytes.len() {
         return session_in(bytes);
     }
-    let whole = padded(bytes);
-    session_in(&whole)
+    session_in_short(bytes)
 }
 
 // Writes the session's bytes over those that are there. A place of another length is left as it is.
@@ -58,10 +58,8 @@ pub fn encode(session: Session, bytes: &mut [u8])
     if bytes.len() != SESSION_LENGTH {
         return;
     }
-    let frame = session.frame;
-    put_frame(frame, bytes);
-    let reader = session.reader;
-    put_reader(reader, bytes);
-    let pad = session.pad;
-    put_pad(pad, bytes);
+    put_frame(session.frame, bytes);
+    put_reader(session.reader, bytes);
+    put_pad(session.pad, bytes);
+    put_maps(session.frame.received, bytes);
 }

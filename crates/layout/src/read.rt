@@ -2,7 +2,7 @@
 ghost use mathlib.Core.Path.{_≡_};
 ghost use Prim.Native.Nat.{_+_, _≤_};
 ghost use lib.ListN.{length};
-ghost use Rattle.layout.specs.Layout.{sessionLength, bytesFrom, frameIn, readerIn, padIn, decoded};
+ghost use Rattle.layout.specs.Layout.{sessionLength, bytesFrom, mapsIn, frameIn, readerIn, padIn, decoded};
 use crate::SESSION_LENGTH;
 use crate::copy::copy;
 use crate::number::phase_of;
@@ -12,22 +12,13 @@ use pad::message::Message;
 use pad::parameter::Values;
 use rules::Frame;
 use rules::Held;
+use rules::Maps;
 use rules::Pad;
 use rules::Reader;
 use rules::Session;
 use screen::cell::Column;
 use screen::cell::Line;
 use screen::cell::Place;
-
-// The bytes that are there, and zeros up to a session's length.
-pub(crate) fn padded(bytes: &[u8]) -> [u8; SESSION_LENGTH]
-    requires { ⌜ length (now bytes) ≤ sessionLength ⌝ }
-    ensures { λ r. ⌜ r ≡ bytesFrom (now (bytes .entry)) 0 sessionLength ⌝ }
-{
-    let mut whole = [0; SESSION_LENGTH];
-    copy(bytes, &mut whole, 0);
-    whole
-}
 
 // The six held bytes.
 fn held_in(bytes: &[u8]) -> [u8; 6]
@@ -59,6 +50,20 @@ fn line_in(bytes: &[u8]) -> [u8; EditLine::CAPACITY]
     line
 }
 
+// The facility maps received.
+fn maps_in(bytes: &[u8]) -> Maps
+    requires { ⌜ sessionLength ≤ length (now bytes) ⌝ }
+    ensures { λ r. ⌜ r ≡ mapsIn (now (bytes .entry)) ⌝ }
+{
+    Maps {
+        edit: bytes[206],
+        erase: bytes[207],
+        transmit: bytes[208],
+        format0: bytes[209],
+        format1: bytes[210],
+    }
+}
+
 fn frame_in(bytes: &[u8]) -> Frame
     requires { ⌜ sessionLength ≤ length (now bytes) ⌝ }
     ensures { λ r. ⌜ r ≡ frameIn (now (bytes .entry)) ⌝ }
@@ -73,6 +78,7 @@ fn frame_in(bytes: &[u8]) -> Frame
         det: bytes[5] == 1,
         x3: bytes[6] == 1,
         suppressed: bytes[7] == 1,
+        received: maps_in(bytes),
     }
 }
 
@@ -121,4 +127,14 @@ pub(crate) fn session_in(bytes: &[u8]) -> Session
         reader: reader_in(bytes),
         pad: pad_in(bytes),
     }
+}
+
+// The session of bytes that may be too short for one: zeros stand for what is missing.
+pub(crate) fn session_in_short(bytes: &[u8]) -> Session
+    requires { ⌜ length (now bytes) ≤ sessionLength ⌝ }
+    ensures { λ r. ⌜ r ≡ decoded (now (bytes .entry)) ⌝ }
+{
+    let mut whole = [0; SESSION_LENGTH];
+    copy(bytes, &mut whole, 0);
+    session_in(&whole)
 }

@@ -2,7 +2,7 @@
 ghost use mathlib.Core.Path.{_≡_};
 ghost use lib.ListN.{length};
 ghost use Rattle.words.specs.Stored.{Emitted};
-ghost use Rattle.layout.specs.Layout.{sessionLength, frameBytes, readerBytes, lineBytes, messageBytes, padBytes};
+ghost use Rattle.layout.specs.Layout.{sessionLength, frameBytes, readerBytes, lineBytes, messageBytes, padBytes, mapsBytes};
 use crate::VERSION;
 use crate::copy::copy;
 use crate::number::phase_bytes;
@@ -10,10 +10,11 @@ use crate::number::stage_bytes;
 use pad::line::EditLine;
 use pad::message::Message;
 use rules::Frame;
+use rules::Maps;
 use rules::Pad;
 use rules::Reader;
 
-// The version and the frame.
+// The version and the frame, but for its maps.
 pub(crate) fn put_frame(frame: Frame, bytes: &mut [u8])
     requires { ⌜ length (now bytes) ≡ sessionLength ⌝ }
     ensures { λ _. ⌜ Emitted (now (bytes .entry)) 0 (frameBytes frame) (now (bytes .exit)) 8 ⌝ }
@@ -72,8 +73,18 @@ pub(crate) fn put_pad(pad: Pad, bytes: &mut [u8])
 {
     let values = pad.values.held;
     copy(&values, bytes, 18);
-    let line = pad.line;
-    put_line(line, bytes);
-    let message = pad.message;
-    put_message(message, bytes);
+    put_line(pad.line, bytes);
+    put_message(pad.message, bytes);
+}
+
+// The facility maps received.
+pub(crate) fn put_maps(maps: Maps, bytes: &mut [u8])
+    requires { ⌜ length (now bytes) ≡ sessionLength ⌝ }
+    ensures { λ _. ⌜ Emitted (now (bytes .entry)) 206 (mapsBytes maps) (now (bytes .exit)) 211 ⌝ }
+{
+    bytes[206] = maps.edit;
+    bytes[207] = maps.erase;
+    bytes[208] = maps.transmit;
+    bytes[209] = maps.format0;
+    bytes[210] = maps.format1;
 }

@@ -9,10 +9,12 @@ use crate::order::Order;
 use crate::sink;
 use crate::sink::Sink;
 use admit::number::number_of;
+use command::facility::OWN;
 use pad::line::EditLine;
 use pad::parameter::Values;
 use rules::Answer;
 use rules::Frame;
+use rules::Maps;
 use rules::Reader;
 use telnet::Phase;
 use telnet::Verb;
@@ -71,13 +73,32 @@ fn parameters(out: &mut [u8], sink: Sink, values: Values) -> Sink {
     bytes(out, sink, &held, 28)
 }
 
-// The line's end: whether option 30 is on, the characters that wait in the edit line, and the values of all parameters.
+// Whether option 30 is on, the characters that wait in the edit line, and the values of all parameters.
 fn local(out: &mut [u8], sink: Sink, desk: Desk) -> Sink {
     let frame = frame_of(desk);
     let pad = pad_of(desk);
     let switched = flag(out, sink, frame.x3);
     let waiting = edit_line(out, switched, pad.line);
-    let whole = parameters(out, waiting, pad.values);
+    parameters(out, waiting, pad.values)
+}
+
+// What is agreed: the bits of the maps received that the terminal's own have too.
+fn agreed(out: &mut [u8], sink: Sink, received: Maps) -> Sink {
+    let maps = [
+        received.edit & OWN.edit,
+        received.erase & OWN.erase,
+        received.transmit & OWN.transmit,
+        received.format0 & OWN.format0,
+        received.format1 & OWN.format1,
+    ];
+    bytes(out, sink, &maps, 5)
+}
+
+// The line's end: the PAD, and what is agreed.
+fn ending(out: &mut [u8], sink: Sink, desk: Desk) -> Sink {
+    let typed = local(out, sink, desk);
+    let frame = frame_of(desk);
+    let whole = agreed(out, typed, frame.received);
     sink::put(out, whole, b'\n')
 }
 
@@ -93,7 +114,7 @@ fn answer(
     let told = session(out, counted, frame_of(desk));
     let lettered = bytes(out, told, chars, desk.chars);
     let formatted = bytes(out, lettered, attrs, desk.attrs);
-    local(out, formatted, desk)
+    ending(out, formatted, desk)
 }
 
 // By place where the reader may stand: its name, in eight letters with the spaces after it.

@@ -29,11 +29,14 @@ use Rattle.rules.specs.declared.Reader.{Reader}
 use Rattle.rules.specs.declared.Pad.{Pad}
 use Rattle.rules.specs.declared.Command.{Command}
 use Rattle.rules.specs.declared.Command.the-variants.{Facilities, MoveCursor, Move, CharShift, ReadCursor, Transmit, Erase, FormatData, Repeat, SuppressProtection, Error}
+use Rattle.rules.specs.declared.Maps.{Maps}
+use Rattle.rules.specs.declared.Governor.{Governor}
 use Rattle.rules.specs.declared.Fault.{Fault}
-use Rattle.rules.specs.declared.Fault.the-variants.{NoFault, UnknownCode, OffScreen, TooManyParameters, TooFewParameters, BadValue, BadMap}
+use Rattle.rules.specs.declared.Fault.the-variants.{NoFault, NotAgreed, UnknownCode, OffScreen, TooManyParameters, TooFewParameters, BadValue, BadMap}
 use Rattle.rules.specs.declared.Key.{Key}
-use Rattle.rules.specs.Session.{View, State, printable, cells, x3Cells, withX3, lineTakesKeys, viewOf, cursorCell, screenEnd, withCursor, withModes, withFrame, withAttrs}
+use Rattle.rules.specs.Session.{View, State, printable, cells, x3Cells, switched, withX3, withReceived, lineTakesKeys, viewOf, cursorCell, screenEnd, withCursor, withModes, withFrame, withAttrs}
 use Rattle.rules.specs.Effect.{Effect, Executed, Change, Part, changedAll, changing, saying, quiet}
+use Rattle.rules.specs.Facility.{agreed}
 use Rattle.rules.specs.Command.{Row, rows, Listed, listed, unlisted, rowOf, codeIn, parameter, formatCount, valueFault, faultOf}
 use Rattle.rules.specs.Cursor.{cursorGuarded}
 use Rattle.rules.specs.Telnet.{isOn, accepts, turned, switchedOn, switchedOff, negotiated, hostCharacter, hostCharacters, hostData, hostText}
@@ -44,7 +47,7 @@ use Rattle.rules.specs.Refusal.{isTaken}
 use Rattle.rules.specs.Operation.{happening, hostByte, applied, running, unless, hostBytes, hostRefusal, pressEffect, padPressed, oneKey, keyRefusal}
 use Rattle.rules.specs.Call.{host, key, called}
 use Rattle.rules.specs.Executed.{oneOf}
-use Rattle.rules.specs.Causes.{Aspect, attributes, det, x3, suppression, characters, cursor, values, line, Same, changers, byte, execution, negotiation, keystroke, typing, mayChange, commandCause, messageCause, causeOf, causesIn, keyCause, causesOf, noneChanges, NothingElse, ReaderKept}
+use Rattle.rules.specs.Causes.{Aspect, attributes, det, x3, suppression, maps, characters, cursor, values, line, Same, changers, byte, execution, negotiation, keystroke, typing, mayChange, commandCause, messageCause, causeOf, causesIn, keyCause, causesOf, noneChanges, NothingElse, ReaderKept}
 use Rattle.rules.proofs.All.{All, all-append, all-equal}
 use Rattle.rules.proofs.Rows.{in-list, found-code}
 use Rattle.rules.proofs.Options.{by-option}
@@ -57,6 +60,7 @@ record Leaves (may : Aspect → Bool) (v : View) (e : Effect) : Type 0 where
   the-det : may det ≡ false → e .view .frame .det ≡ v .frame .det
   the-x3 : may x3 ≡ false → e .view .frame .x3 ≡ v .frame .x3
   the-suppression : may suppression ≡ false → e .view .frame .suppressed ≡ v .frame .suppressed
+  the-maps : may maps ≡ false → e .view .frame .received ≡ v .frame .received
   the-characters : may characters ≡ false → e .changes ≡ []
   the-cursor : may cursor ≡ false → e .view .frame .cursor ≡ v .frame .cursor
 
@@ -71,11 +75,12 @@ record LeavesPad (may : Aspect → Bool) (p q : Pad) : Type 0 where
 abbrev leaving : {may : Aspect → Bool} {v w : View} {cs : List Change} {ps : List Part} {es : List Executed}
     → (may attributes ≡ false → w .attrs ≡ v .attrs) → (may det ≡ false → w .frame .det ≡ v .frame .det)
     → (may x3 ≡ false → w .frame .x3 ≡ v .frame .x3)
-    → (may suppression ≡ false → w .frame .suppressed ≡ v .frame .suppressed) → (may characters ≡ false → cs ≡ [])
+    → (may suppression ≡ false → w .frame .suppressed ≡ v .frame .suppressed)
+    → (may maps ≡ false → w .frame .received ≡ v .frame .received) → (may characters ≡ false → cs ≡ [])
     → (may cursor ≡ false → w .frame .cursor ≡ v .frame .cursor)
     → Leaves may v (record { view = w; changes = cs; reply = ps; executed = es })
-leaving a b x c d e =
-    record { the-attributes = a; the-det = b; the-x3 = x; the-suppression = c; the-characters = d; the-cursor = e }
+leaving a b x c m d e =
+    record { the-attributes = a; the-det = b; the-x3 = x; the-suppression = c; the-maps = m; the-characters = d; the-cursor = e }
 
 same : {b : Bool} {A : Type 0} {x : A} → b ≡ false → x ≡ x
 same e = refl
@@ -83,37 +88,41 @@ same e = refl
 module _ {v : View} {may : Aspect → Bool} where
   -- nothing but a reply
   says : {ps : List Part} → Leaves may v (saying v ps)
-  says = leaving same same same same same same
+  says = leaving same same same same same same same
 
   moves : {p : Place} {ps : List Part} → may cursor ≡ true → Leaves may v (saying (withCursor v p) ps)
-  moves e = leaving same same same same same (not-both _ e)
+  moves e = leaving same same same same same same (not-both _ e)
 
   edits : {cs : List Change} → may characters ≡ true → Leaves may v (changing v cs)
-  edits e = leaving same same same same (not-both _ e) same
+  edits e = leaving same same same same same (not-both _ e) same
 
   writes : {p : Place} {cs : List Change} → may characters ≡ true → may cursor ≡ true → Leaves may v (changing (withCursor v p) cs)
-  writes e d = leaving same same same same (not-both _ e) (not-both _ d)
+  writes e d = leaving same same same same same (not-both _ e) (not-both _ d)
 
   formats : {attrs : List ℕ} → may attributes ≡ true → Leaves may v (quiet (withAttrs v attrs))
-  formats e = leaving (not-both _ e) same same same same same
+  formats e = leaving (not-both _ e) same same same same same same
 
-  -- suppression, DET, or both; option 30
+  -- suppression, DET, the maps received, or all of them; option 30
   suppresses : {off : Bool} {ps : List Part} → may suppression ≡ true → Leaves may v (saying (withModes v (v .frame .det) off) ps)
-  suppresses e = leaving same same same (not-both _ e) same same
+  suppresses e = leaving same same same (not-both _ e) same same same
 
   switches : {on : Bool} {ps : List Part} → may det ≡ true → Leaves may v (saying (withModes v on (v .frame .suppressed)) ps)
-  switches e = leaving same (not-both _ e) same same same same
+  switches e = leaving same (not-both _ e) same same same same same
 
-  resets : {on off : Bool} {ps : List Part} → may det ≡ true → may suppression ≡ true → Leaves may v (saying (withModes v on off) ps)
-  resets e d = leaving same (not-both _ e) same (not-both _ d) same same
+  asks : {m : Maps} {ps : List Part} → may maps ≡ true → Leaves may v (saying (withFrame v (withReceived (v .frame) m)) ps)
+  asks e = leaving same same same same (not-both _ e) same same
+
+  resets : {on off : Bool} {m : Maps} {ps : List Part} → may det ≡ true → may suppression ≡ true → may maps ≡ true
+      → Leaves may v (saying (withFrame v (withReceived (switched (v .frame) on off) m)) ps)
+  resets e d c = leaving same (not-both _ e) same (not-both _ d) (not-both _ c) same same
 
   turns : {on : Bool} {ps : List Part} → may x3 ≡ true → Leaves may v (saying (withFrame v (withX3 (v .frame) on)) ps)
-  turns e = leaving same same (not-both _ e) same same same
+  turns e = leaving same same (not-both _ e) same same same same
 
   -- 29: a blank screen
   clears : {p : Place} {attrs : List ℕ} {cs : List Change} → may attributes ≡ true → may characters ≡ true → may cursor ≡ true
       → Leaves may v (changing (withAttrs (withCursor v p) attrs) cs)
-  clears e d c = leaving (not-both _ e) same same same (not-both _ d) (not-both _ c)
+  clears e d c = leaving (not-both _ e) same same same same (not-both _ d) (not-both _ c)
 
 -- a code that is neither SET nor RESPONSE-SET
 not-set : (code : ℕ) → oneOf (0 ∷ 1 ∷ []) code ≡ false → isSet code ≡ false
@@ -135,7 +144,7 @@ module _ {may : Aspect → Bool} (e : may characters ≡ true) (d : may cursor �
       → Leaves may v (record { view = rest .view; changes = one .changes ++ rest .changes; reply = ps; executed = es })
   leaves-then one rest a b =
       leaving (λ h. b .the-attributes h ∙ a .the-attributes h) (λ h. b .the-det h ∙ a .the-det h) (λ h. b .the-x3 h ∙ a .the-x3 h)
-      (λ h. b .the-suppression h ∙ a .the-suppression h) (not-both _ e) (not-both _ d)
+      (λ h. b .the-suppression h ∙ a .the-suppression h) (λ h. b .the-maps h ∙ a .the-maps h) (not-both _ e) (not-both _ d)
 
   leaves-characters : (n : ℕ) (v : View) (c : ℕ) → Leaves may v (hostCharacters n v c)
   unfolding hostCharacters
@@ -194,11 +203,12 @@ module _ (v : View) (h : Held) where
   limits-value SuppressProtection = either (Limits SuppressProtection) (between 251 254 (parameter h 0)) (λ q e. cc) (λ q e. cc)
   limits-value Error = λ e. cc
 
-  limits : (c : Command) (n : ℕ) → Limits c (faultOf v c n h)
+  limits : (c : Command) (n : ℕ) (g : Governor) → Limits c (faultOf v c n g h)
   unfolding faultOf
-  limits c n =
-      either (Limits c) (ltb (h .count) (n + 1)) (λ q e. cc)
-      (λ q. either (Limits c) (ltb (n + 1) (h .count)) (λ q e. cc) (λ q. limits-value c))
+  limits c n g =
+      either (Limits c) (not (agreed (v .frame .received) g)) (λ q e. cc)
+      (λ q. either (Limits c) (ltb (h .count) (n + 1)) (λ q e. cc)
+      (λ q. either (Limits c) (ltb (n + 1) (h .count)) (λ q e. cc) (λ q. limits-value c)))
 
   leaves-suppressing : {may : Aspect → Bool} → may suppression ≡ true → (p : ℕ) → Leaves may v (suppressing v p)
   unfolding suppressing
@@ -216,7 +226,7 @@ module _ (v : View) (h : Held) where
   leaves-rows =
       all-append LeavesRow (take 10 rows) (drop 10 rows)
       -- 1 to 5, 8 to 12
-      (says, (says, (says, (says, (moves refl, (moves refl, (moves refl, (moves refl, (moves refl, (moves refl, tt))))))))))
+      (asks refl, (asks refl, (asks refl, (asks refl, (moves refl, (moves refl, (moves refl, (moves refl, (moves refl, (moves refl, tt))))))))))
       (all-append LeavesRow (take 11 (drop 10 rows)) (drop 21 rows)
       -- 15, 16, 17, 19, 20 to 26
       (edits refl, (edits refl, (says, (moves refl, (moves refl, (moves refl, (moves refl, (says, (says, (says, (says, tt)))))))))))
@@ -232,8 +242,9 @@ module _ (v : View) (h : Held) where
 
   leaves-judged : (r : Row) → LeavesRow r → (f : Fault) → (f ≡ OffScreen → eqb (codeIn h) 5 ≡ true) → LeavesCommand (judged v r h f)
   unfolding judged commandCause mayChange changers oneOf
-  leaves-judged r k NoFault l = leaving (k .the-attributes) (k .the-det) (k .the-x3) (k .the-suppression) (k .the-characters) (k .the-cursor)
+  leaves-judged r k NoFault l = leaving (k .the-attributes) (k .the-det) (k .the-x3) (k .the-suppression) (k .the-maps) (k .the-characters) (k .the-cursor)
   leaves-judged r k OffScreen l = moves (rw (l refl))
+  leaves-judged r k NotAgreed l = says
   leaves-judged r k UnknownCode l = says
   leaves-judged r k TooManyParameters l = says
   leaves-judged r k TooFewParameters l = says
@@ -247,7 +258,7 @@ module _ (v : View) (h : Held) where
       let row = in-list LeavesRow leaves-rows (codeIn h) in
       let five = in-list (λ r. isMove (r .command) ≡ eqb (r .code) 5) (all-equal _ _ rows moves-5) (codeIn h) in
       leaves-judged r (rw e at row) _
-      (λ f. rw (← found-code (codeIn h) r e) (sym (rw e at five) ∙ limits (r .command) (r .parameters) f))
+      (λ f. rw (← found-code (codeIn h) r e) (sym (rw e at five) ∙ limits (r .command) (r .parameters) (r .governor) f))
 
   leaves-subcommand : LeavesCommand (subcommand v h)
   unfolding subcommand
@@ -277,7 +288,7 @@ module _ (v : View) where
   leaves-negotiated Dont option =
       let L : Effect → Type 0 = Leaves (λ a. mayChange a (negotiation Dont option)) v in
       by-option (λ o. L (switchedOff v o option)) option
-      (λ e. either L (v .frame .det) (λ q. resets (rw e) (rw e)) (λ q. says))
+      (λ e. either L (v .frame .det) (λ q. resets (rw e) (rw e) (rw e)) (λ q. says))
       (λ e. either L (v .frame .x3) (λ q. turns (rw e)) (λ q. says))
       says
 
@@ -361,7 +372,7 @@ module _ (v : View) where
       (λ e.
       let some : between 1 127 k ≡ true = in-between 1 127 k (omega (arith, eqb-false k 0 e)) (omega (arith, ltb-true k 128 h)) in
       let text = leaves-text {may = λ a. mayChange a (typing k)} some some (echoedAt p k) v in
-      leaving (text .the-attributes) (text .the-det) (text .the-x3) (text .the-suppression) (text .the-characters) (text .the-cursor))
+      leaving (text .the-attributes) (text .the-det) (text .the-x3) (text .the-suppression) (text .the-maps) (text .the-characters) (text .the-cursor))
 
 leaves-key : (s : State) (k : ℕ) → Leaves (λ a. mayChange a (keyCause (s .session .frame) k)) (viewOf s) (pressEffect s k)
 unfolding keyCause
@@ -389,6 +400,7 @@ same-applied attributes s r p e h k l = k .the-attributes h
 same-applied det s r p e h k l = k .the-det h
 same-applied x3 s r p e h k l = k .the-x3 h
 same-applied suppression s r p e h k l = k .the-suppression h
+same-applied maps s r p e h k l = k .the-maps h
 same-applied characters s r p e h k l = rw (k .the-characters h)
 same-applied cursor s r p e h k l = k .the-cursor h
 same-applied values s r p e h k l = l .the-values h
@@ -400,6 +412,7 @@ same-refl attributes s = refl
 same-refl det s = refl
 same-refl x3 s = refl
 same-refl suppression s = refl
+same-refl maps s = refl
 same-refl characters s = refl
 same-refl cursor s = refl
 same-refl values s = refl
@@ -410,6 +423,7 @@ same-then attributes s t u p q = q ∙ p
 same-then det s t u p q = q ∙ p
 same-then x3 s t u p q = q ∙ p
 same-then suppression s t u p q = q ∙ p
+same-then maps s t u p q = q ∙ p
 same-then characters s t u p q = q ∙ p
 same-then cursor s t u p q = q ∙ p
 same-then values s t u p q = q ∙ p

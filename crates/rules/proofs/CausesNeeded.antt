@@ -18,11 +18,11 @@ use Rattle.rules.specs.Refusal.{verdict}
 use Rattle.rules.specs.Operation.{running, pressTests, keyRan}
 use Rattle.rules.specs.Call.{Call, host, key, called, left}
 use Rattle.rules.specs.Executed.{oneOf}
-use Rattle.rules.specs.Causes.{Aspect, attributes, det, x3, suppression, characters, cursor, values, line, changers}
+use Rattle.rules.specs.Causes.{Aspect, attributes, det, x3, suppression, maps, characters, cursor, values, line, changers}
 use Rattle.rules.specs.cases.Computing.{computing}
-use Rattle.rules.specs.cases.Vocabulary.{Seen, briefly, lent, flag, same, failures, starting, modes, x3Switched, padded, seeing}
+use Rattle.rules.specs.cases.Vocabulary.{Seen, lent, flag, same, failures, starting, modes, x3Switched, padded, seeing}
 use Rattle.rules.specs.cases.Vocabulary as word
-use Rattle.rules.proofs.Passing.{failures-same}
+use Rattle.rules.proofs.Passing.{failures-same, briefly}
 use Rattle.rules.proofs.Ready.{passing, ready, key-full, byte-full}
 -- that nothing else changes it is checked first
 use Rattle.rules.proofs.Causes.{nothing-else}
@@ -42,6 +42,8 @@ differs attributes s t = not (same (s .screen .attrs) (t .screen .attrs))
 differs det s t = not (eqb (flag (s .session .frame .det)) (flag (t .session .frame .det)))
 differs x3 s t = not (eqb (flag (s .session .frame .x3)) (flag (t .session .frame .x3)))
 differs suppression s t = not (eqb (flag (s .session .frame .suppressed)) (flag (t .session .frame .suppressed)))
+differs maps s t = let m = s .session .frame .received in let n = t .session .frame .received in
+    not (same (m .edit ∷ m .erase ∷ m .transmit ∷ m .format0 ∷ m .format1 ∷ []) (n .edit ∷ n .erase ∷ n .transmit ∷ n .format0 ∷ n .format1 ∷ []))
 differs characters s t = not (same (s .screen .chars) (t .screen .chars))
 differs cursor s t = not (eqb (cellOf 4 (s .session .frame .cursor)) (cellOf 4 (t .session .frame .cursor)))
 differs values s t = not (same (s .session .pad .values .held) (t .session .pad .values .held))
@@ -60,7 +62,9 @@ abbrev command : ℕ → List ℕ → Call
 command code =
     host
     (subnegotiation 20
-    (if eqb code 5 then 5 ∷ 3 ∷ 2 ∷ []
+    (if leb code 3 then code ∷ 0 ∷ []
+    else if eqb code 4 then 4 ∷ 0 ∷ 0 ∷ []
+    else if eqb code 5 then 5 ∷ 3 ∷ 2 ∷ []
     else if eqb code 36 then 36 ∷ 9 ∷ 0 ∷ 0 ∷ 1 ∷ []
     else if eqb code 37 then 37 ∷ 1 ∷ 120 ∷ []
     else if eqb code 38 then 38 ∷ 254 ∷ []
@@ -102,12 +106,8 @@ pub record EachChanges (a : Aspect) : Type 0 where
 
 -- ---- by what a call leaves once it has passed the tests of every call
 
--- what a host byte leaves
-abbrev heardTo : State → ℕ → State
-heardTo s b = (running s (b ∷ [])) .state
-
 byte-changes : (a : Aspect) (s : State) → ready s (replicate 86 lent) ≡ true → (b : ℕ)
-    → changes a s (host (b ∷ [])) ≡ differs a s (heardTo s b)
+    → changes a s (host (b ∷ [])) ≡ differs a s ((running s (b ∷ [])) .state)
 byte-changes a s r b = ap (λ (o : Seen). differs a s (o .left)) (byte-full s 86 r b)
 
 -- what a key leaves
@@ -126,7 +126,7 @@ unfolding computing seeing ready passing
 other-ready = refl
 
 by-text : (a : Aspect)
-    → failures (λ b. not (changers a .text b) || (differs a start (heardTo start b) || differs a other (heardTo other b))) 256 ≡ []
+    → failures (λ b. not (changers a .text b) || (differs a start ((running start (b ∷ [])) .state) || differs a other ((running other (b ∷ [])) .state))) 256 ≡ []
     → failures (λ b. not (changers a .text b) || changesOne a (host (b ∷ []))) 256 ≡ []
 by-text a p = failures-same _ _ 256 (λ b. rw (byte-changes a start start-ready b, byte-changes a other other-ready b)) ∙ p
 
@@ -142,6 +142,7 @@ line-takes attributes k e = not-both false e refl
 line-takes det k e = not-both false e refl
 line-takes x3 k e = not-both false e refl
 line-takes suppression k e = not-both false e refl
+line-takes maps k e = not-both false e refl
 line-takes characters k e = and-right (leb 1 k) _ e
 line-takes cursor k e = and-right (leb 1 k) _ e
 line-takes values k e = not-both false e refl
@@ -217,6 +218,19 @@ by-suppression =
       typed = by-typed suppression refl;
     }
 
+by-maps : EachChanges maps
+unfolding computing seeing oneOf changers differs idle
+by-maps =
+    record {
+      text = by-text maps refl;
+      executed = refl;
+      failed = refl;
+      verbs = refl;
+      messages = refl;
+      keys = by-keys maps refl;
+      typed = by-typed maps refl;
+    }
+
 by-characters : EachChanges characters
 unfolding computing seeing oneOf changers differs idle
 by-characters =
@@ -274,6 +288,7 @@ each-changes attributes = by-attributes
 each-changes det = by-det
 each-changes x3 = by-x3
 each-changes suppression = by-suppression
+each-changes maps = by-maps
 each-changes characters = by-characters
 each-changes cursor = by-cursor
 each-changes values = by-values

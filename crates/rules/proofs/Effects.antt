@@ -31,12 +31,14 @@ use Rattle.rules.specs.declared.Area.the-variants.{WholeScreen, Unprotec
 use Rattle.rules.specs.declared.Command.{Command}
 use Rattle.rules.specs.declared.Command.the-variants.{Facilities, MoveCursor, Move, CharShift, ReadCursor, Transmit, Erase, FormatData, Repeat, SuppressProtection, Error}
 use Rattle.rules.specs.declared.Fault.{Fault}
-use Rattle.rules.specs.declared.Fault.the-variants.{NoFault, UnknownCode, OffScreen, TooManyParameters, TooFewParameters, BadValue, BadMap}
+use Rattle.rules.specs.declared.Maps.{Maps}
+use Rattle.rules.specs.declared.Fault.the-variants.{NoFault, NotAgreed, UnknownCode, OffScreen, TooManyParameters, TooFewParameters, BadValue, BadMap}
 use Rattle.rules.specs.declared.Key.{Key}
 use Rattle.rules.specs.declared.Key.the-variants.{Typed, Back, Tab, Send, Delete, Function, Meaningless}
-use Rattle.rules.specs.Session.{View, State, printable, cells, x3Cells, lineTakesKeys, viewOf}
+use Rattle.rules.specs.Session.{View, State, printable, cells, x3Cells, withReceived, lineTakesKeys, viewOf, withFrame}
 use Rattle.rules.specs.Effect.{Effect, Change, Part, bytes, text, changedAll, message, changing, saying, quiet}
-use Rattle.rules.specs.Number.{detOption, dataTransmit, cursorPosition, error, ownMap}
+use Rattle.rules.specs.Number.{detOption, dataTransmit, cursorPosition, error}
+use Rattle.rules.specs.Facility.{ownMap}
 use Rattle.rules.specs.Cursor.{cursorGuarded, destination}
 use Rattle.rules.specs.Telnet.{isOn, accepts, turned, switchedOn, switchedOff, negotiated, hostCharacter, hostCharacters, hostData, hostText}
 use Rattle.rules.specs.Pad.{isX3, counts, response, takesKey, echoedAt, typedTo, passes}
@@ -49,7 +51,7 @@ use Rattle.rules.proofs.Errors.{no-fault}
 use Rattle.rules.proofs.Options.{by-option}
 use Rattle.rules.proofs.Pads.{SoundPad, sent-most}
 use Rattle.rules.proofs.Replies.{InRoom, Follows, fits-nothing, fits-bytes, fits-within, fits-prefaced, place-message, error-message, function-message, response-message, one-text, no-text, fields-text}
-use Rattle.rules.proofs.Views.{On, SoundView, at-place, switched, turned-x3, attributed, limited-on, place-on, some, field-lt, cursor-lt, destination-on, goes}
+use Rattle.rules.proofs.Views.{On, SoundView, at-place, switched, asked, turned-x3, attributed, limited-on, place-on, some, field-lt, cursor-lt, destination-on, goes}
 
 -- what an effect keeps on a screen m cells wide and n lines high
 pub record Keeps (m n : ℕ) (e : Effect) : Type 0 where
@@ -121,7 +123,7 @@ module _ {m n : ℕ} {v : View} (k : SoundView m n v) where
       (tells k _ (omega arith))
   keeps-negotiated Dont option =
       by-option (λ o. Keeps m n (switchedOff v o option)) option
-      (λ q. either (Keeps m n) (v .frame .det) (λ q. tells (switched k _ _) _ (omega arith)) (λ q. quietly k))
+      (λ q. either (Keeps m n) (v .frame .det) (λ q. tells (asked (switched k _ _) _) _ (omega arith)) (λ q. quietly k))
       (λ q. either (Keeps m n) (v .frame .x3) (λ q. tells (turned-x3 k false (λ t. not-both false t refl)) _ (omega arith)) (λ q. quietly k))
       (quietly k)
   keeps-negotiated Will option = tells k _ (omega arith)
@@ -205,19 +207,19 @@ module _ {m n : ℕ} {v : View} (k : SoundView m n v) where
       (λ q. answers (v .frame .suppressed) (tells (switched k _ _) _ (omega arith)) (quietly (switched k _ _)))
       (λ q. either (Keeps m n) (eqb parameter 251) (λ q. tells k _ (omega arith)) (λ q. quietly k)))
 
-  keeps-map : (f : Facility) → Keeps m n (saying v (message (ownMap f) ∷ []))
+  keeps-map : (f : Facility) (m₁ : Maps) → Keeps m n (saying (withFrame v (withReceived (v .frame) m₁)) (message (ownMap f) ∷ []))
   unfolding ownMap subnegotiation doubled
-  keeps-map Editing = tells k _ (omega arith)
-  keeps-map Erasing = tells k _ (omega arith)
-  keeps-map Transmitting = tells k _ (omega arith)
-  keeps-map Formatting = tells k _ (omega arith)
+  keeps-map Editing m₁ = tells (asked k m₁) _ (omega arith)
+  keeps-map Erasing m₁ = tells (asked k m₁) _ (omega arith)
+  keeps-map Transmitting m₁ = tells (asked k m₁) _ (omega arith)
+  keeps-map Formatting m₁ = tells (asked k m₁) _ (omega arith)
 
   keeps-shift : (s : Shift) → Keeps m n (shifting v s)
   keeps-shift s = either (λ cs. Keeps m n (changing v cs)) (cursorGuarded v) (λ g. quietly k) (λ g. changes k _ tt)
 
   keeps-obeyed : (c : Command) (h : Held) → valueFault v c h ≡ NoFault → Keeps m n (obeyed v c h)
   unfolding obeyed valueFault
-  keeps-obeyed (Facilities f) h e = keeps-map f
+  keeps-obeyed (Facilities f) h e = keeps-map f _
   keeps-obeyed MoveCursor h e = quietly (at-place k _ (limited-on k (placeIn h)))
   keeps-obeyed (Move to) h e = quietly (goes k to)
   keeps-obeyed (CharShift s) h e = keeps-shift s
@@ -229,12 +231,13 @@ module _ {m n : ℕ} {v : View} (k : SoundView m n v) where
   keeps-obeyed SuppressProtection h e = keeps-suppressing _
   keeps-obeyed Error h e = quietly k
 
-  keeps-judged : (r : Row) (h : Held) (f : Fault) → faultOf v (r .command) (r .parameters) h ≡ f → Keeps m n (judged v r h f)
+  keeps-judged : (r : Row) (h : Held) (f : Fault) → faultOf v (r .command) (r .parameters) (r .governor) h ≡ f → Keeps m n (judged v r h f)
   unfolding judged
   keeps-judged r h NoFault e =
-      let o = keeps-obeyed (r .command) h (no-fault v _ _ h e) in
+      let o = keeps-obeyed (r .command) h (no-fault v _ _ (r .governor) h e) in
       record { view = o .view; changes = o .changes; reply = o .reply; executed = omega arith }
   keeps-judged r h OffScreen e = errs (at-place k _ (limited-on k (placeIn h))) _ 3 refl
+  keeps-judged r h NotAgreed e = errs k _ 1 refl
   keeps-judged r h UnknownCode e = errs k _ 2 refl
   keeps-judged r h TooManyParameters e = errs k _ 9 refl
   keeps-judged r h TooFewParameters e = errs k _ 10 refl

@@ -1,5 +1,6 @@
 -- A command that draws an ERROR changes nothing, except that MOVE CURSOR's limits the cursor.
 use mathlib.Core.Path.{_≡_, refl, ap}
+use mathlib.Core.Bool.{not}
 use mathlib.Core.List.{[]}
 use Prim.Native.Nat.{ℕ, _+_}
 use native.Mathlib.Omega.{arith}
@@ -9,9 +10,11 @@ use Rattle.words.proofs.Laws.{either}
 use Rattle.rules.specs.declared.Held.{Held}
 use Rattle.rules.specs.declared.Command.{Command}
 use Rattle.rules.specs.declared.Fault.{Fault}
-use Rattle.rules.specs.declared.Fault.the-variants.{NoFault, UnknownCode, OffScreen, TooManyParameters, TooFewParameters, BadValue, BadMap}
+use Rattle.rules.specs.declared.Governor.{Governor}
+use Rattle.rules.specs.declared.Fault.the-variants.{NoFault, NotAgreed, UnknownCode, OffScreen, TooManyParameters, TooFewParameters, BadValue, BadMap}
 use Rattle.rules.specs.Session.{View, withCursor}
 use Rattle.rules.specs.Effect.{Effect}
+use Rattle.rules.specs.Facility.{agreed}
 use Rattle.rules.specs.Command.{Row, Listed, listed, unlisted, rowOf, codeIn, placeIn, valueFault, faultOf}
 use Rattle.rules.specs.Cursor.{limited}
 use Rattle.rules.specs.Subcommand.{erring, judged, looked, subcommand}
@@ -22,6 +25,7 @@ use Rattle.rules.proofs.Causes.{nothing-else}
 abbrev pub afterFault : View → Held → Fault → View
 afterFault v h OffScreen = withCursor v (limited (v .frame) (placeIn h))
 afterFault v h NoFault = v
+afterFault v h NotAgreed = v
 afterFault v h UnknownCode = v
 afterFault v h TooManyParameters = v
 afterFault v h TooFewParameters = v
@@ -43,6 +47,7 @@ module _ (v : View) (h : Held) where
   unfolding judged
   errs-judged r NoFault e = absurd (omega (arith, ap length e))
   errs-judged r OffScreen e = errs _ OffScreen
+  errs-judged r NotAgreed e = errs _ NotAgreed
   errs-judged r UnknownCode e = errs _ UnknownCode
   errs-judged r TooManyParameters e = errs _ TooManyParameters
   errs-judged r TooFewParameters e = errs _ TooFewParameters
@@ -63,8 +68,9 @@ module _ (v : View) (h : Held) where
       (λ t. errs-looked (rowOf (codeIn h)))
 
 -- where no ERROR is drawn, the values draw none
-pub no-fault : (v : View) (c : Command) (n : ℕ) (h : Held) → faultOf v c n h ≡ NoFault → valueFault v c h ≡ NoFault
+pub no-fault : (v : View) (c : Command) (n : ℕ) (g : Governor) (h : Held) → faultOf v c n g h ≡ NoFault → valueFault v c h ≡ NoFault
 unfolding faultOf
-no-fault v c n h =
-    either (λ f. f ≡ NoFault → valueFault v c h ≡ NoFault) (ltb (h .count) (n + 1)) (λ q e. cc)
-    (λ q. either (λ f. f ≡ NoFault → valueFault v c h ≡ NoFault) (ltb (n + 1) (h .count)) (λ q e. cc) (λ q e. e))
+no-fault v c n g h =
+    let P : Fault → Type 0 = λ f. f ≡ NoFault → valueFault v c h ≡ NoFault in
+    either P (not (agreed (v .frame .received) g)) (λ q e. cc)
+    (λ q. either P (ltb (h .count) (n + 1)) (λ q e. cc) (λ q. either P (ltb (n + 1) (h .count)) (λ q e. cc) (λ q e. e)))

@@ -6,7 +6,7 @@ use Prim.Native.Nat.{ℕ, _-_, _<_, min, _*_}
 use Prim.Native.String.{String}
 use borrow.Author.Tests.{eqb-true}
 use lib.Dec.{leb, eqb}
-use lib.ListN.{replicate}
+use lib.ListN.{getD, replicate}
 use Rattle.telnet.specs.declared.Phase.the-variants.{Iac, InsideIac}
 use Rattle.telnet.specs.declared.Event.the-variants.{End}
 use Rattle.telnet.specs.declared.Step.{Step}
@@ -16,13 +16,16 @@ use Rattle.telnet.specs.Writer.{subnegotiation, negotiation}
 use Rattle.words.specs.Words.{if_then_else_, between}
 use Rattle.words.proofs.Laws.{either}
 use Rattle.rules.specs.declared.Held.{Held}
+use Rattle.rules.specs.declared.Maps.{Maps}
+use Rattle.rules.specs.declared.Governor.the-variants.{Ungoverned}
 use Rattle.rules.specs.declared.Refusal.the-variants.{Taken}
 use Rattle.rules.specs.declared.Facility.the-variants.{Editing, Erasing, Transmitting, Formatting}
 use Rattle.rules.specs.declared.Command.the-variants.{Facilities, MoveCursor, FormatData, Repeat, SuppressProtection, Error}
 use Rattle.rules.specs.declared.Fault.the-variants.{TooFewParameters}
-use Rattle.rules.specs.Session.{View, State, viewOf, withX3, freshPad, screen, withModes, withFrame}
+use Rattle.rules.specs.Session.{View, State, viewOf, noMaps, switched, withX3, withReceived, freshPad, screen, withModes, withFrame}
 use Rattle.rules.specs.Refusal.{numberOf, verdict}
-use Rattle.rules.specs.Effect.{bytes, saying, quiet}
+use Rattle.rules.specs.Effect.{Effect, bytes, saying, quiet}
+use Rattle.rules.specs.Facility.{repeating, protectionOnOff}
 use Rattle.rules.specs.Command.{Row, row, never, always, onlyWith, Listed, listed, unlisted, rowOf, codeIn, faultOf}
 use Rattle.rules.specs.Telnet.{optionOf, isOn, accepts, turned, switchedOn, switchedOff, negotiated}
 use Rattle.rules.specs.Subcommand.{obeyed, erring, judged, looked, subcommand}
@@ -31,34 +34,11 @@ use Rattle.rules.specs.Operation.{Ran, applied, happening, readerAfter, 
 use Rattle.rules.specs.Call.{host, key, called}
 use Rattle.rules.specs.Executed.{oneOf}
 use Rattle.rules.specs.cases.Computing.{computing}
-use Rattle.rules.specs.cases.Vocabulary.{
-  look,
-  lent,
-  Brief,
-  brief,
-  briefly,
-  same,
-  sameBeside,
-  failures,
-  Sweep,
-  sweep,
-  ifNone,
-  Everywhere,
-  characters,
-  starting,
-  at,
-  modes,
-  reading,
-  afterCr,
-  showing,
-  attributed,
-  unchanged,
-  seeing,
-}
-use Rattle.rules.proofs.Passing.{same-equal, below-passes, everywhere}
+use Rattle.rules.specs.cases.Vocabulary.{look, lent, Brief, brief, same, sameBeside, failures, Sweep, sweep, ifNone, Everywhere, characters, starting, at, modes, maps, reading, afterCr, showing, attributed, unchanged, seeing}
+use Rattle.rules.proofs.Passing.{same-equal, below-passes, briefly, everywhere}
 use Rattle.rules.proofs.Ready.{passing, ready, key-full, byte-full, pad-kept}
 -- the worked cases are checked first
-use Rattle.rules.proofs.Slow.{slow-holds}
+use Rattle.rules.proofs.Agreed.{agreed-holds}
 
 -- IAC SB 20 .. IAC SE
 abbrev det : List ℕ → List ℕ
@@ -169,8 +149,7 @@ data-pad on b =
     either (λ (told : Step). padAfter ((resting on) .session .frame) freshPad (told .event) ≡ freshPad) (eqb b 255) (λ e. refl) (λ e. refl)
 
 data-swept : (title : String) (on : Bool) → ready (resting on) (replicate 44 lent) ≡ true
-    → ifNone (failures (λ b. sameBeside (byteTold (resting on) b) ((dataSweep title on) .shows b)) 256) title
-    → Everywhere (dataSweep title on)
+    → ifNone (failures (λ b. sameBeside (byteTold (resting on) b) ((dataSweep title on) .shows b)) 256) title → Everywhere (dataSweep title on)
 data-swept title on r p =
     everywhere (record { full = λ b. byte-full (resting on) 44 r b; pad = λ b h. data-pad on b; beside = p })
 
@@ -210,7 +189,7 @@ endRan row s =
     let v = viewOf s in
     let r = s .session .reader in
     let h = r .held in
-    let effect = if eqb (h .count) 0 then erring v 0 TooFewParameters else judged v row h (faultOf v (row .command) (row .parameters) h) in
+    let effect = if eqb (h .count) 0 then erring v 0 TooFewParameters else judged v row h (faultOf v (row .command) (row .parameters) (row .governor) h) in
     let one = applied s (readerAfter r 240) (padAfter (s .session .frame) (s .session .pad) (End 20)) effect in
     record { state = one .state; replies = one .replies ++ []; executed = one .executed ++ [] }
 
@@ -247,7 +226,7 @@ errs code number = does unchanged (det (41 ∷ code ∷ number ∷ []))
 
 abbrev x : Ending
 x =
-    ending "5 with every x" (row 5 MoveCursor 2 never) (λ n. 5 ∷ n ∷ 0 ∷ [])
+    ending "5 with every x" (row 5 MoveCursor 2 Ungoverned never) (λ n. 5 ∷ n ∷ 0 ∷ [])
     (λ n. does (at (min n 1) 0) (if leb n 1 then [] else det (41 ∷ 5 ∷ 3 ∷ [])))
 
 pub every-x : Everywhere (endSweep x)
@@ -256,7 +235,7 @@ every-x = end-swept x (λ n. record { ready = refl; found = refl }) tt
 
 abbrev firstMap : Ending
 firstMap =
-    ending "36 with every first map byte" (row 36 FormatData 4 always) (λ n. 36 ∷ n ∷ 0 ∷ 0 ∷ 2 ∷ [])
+    ending "36 with every first map byte" (row 36 FormatData 4 Ungoverned always) (λ n. 36 ∷ n ∷ 0 ∷ 0 ∷ 2 ∷ [])
     (λ n. if leb n 31 then does (attributed (n ∷ n ∷ [])) [] else errs 36 12)
 
 pub every-first-map : Everywhere (endSweep firstMap)
@@ -265,7 +244,7 @@ every-first-map = end-swept firstMap (λ n. record { ready = refl; found = refl 
 
 abbrev secondMap : Ending
 secondMap =
-    ending "36 with every second map byte" (row 36 FormatData 4 always) (λ n. 36 ∷ 9 ∷ n ∷ 0 ∷ 1 ∷ [])
+    ending "36 with every second map byte" (row 36 FormatData 4 Ungoverned always) (λ n. 36 ∷ 9 ∷ n ∷ 0 ∷ 1 ∷ [])
     (λ n. if eqb n 0 then does (attributed (9 ∷ 0 ∷ [])) [] else errs 36 12)
 
 pub every-second-map : Everywhere (endSweep secondMap)
@@ -274,7 +253,7 @@ every-second-map = end-swept secondMap (λ n. record { ready = refl; found = ref
 
 abbrev character : Ending
 character =
-    ending "37 with every character" (row 37 Repeat 2 never) (λ n. 37 ∷ 1 ∷ n ∷ [])
+    ending "37 with every character" (row 37 Repeat 2 repeating never) (λ n. 37 ∷ 1 ∷ n ∷ [])
     (λ n. if between 32 126 n then does (λ s. at 1 0 (showing (n ∷ characters "b") s)) [] else errs 37 11)
 
 pub every-character : Everywhere (endSweep character)
@@ -283,7 +262,7 @@ every-character = end-swept character (λ n. record { ready = refl; found = refl
 
 abbrev value : Ending
 value =
-    ending "38 with every value" (row 38 SuppressProtection 1 (onlyWith 253)) (λ n. 38 ∷ n ∷ [])
+    ending "38 with every value" (row 38 SuppressProtection 1 protectionOnOff (onlyWith 253)) (λ n. 38 ∷ n ∷ [])
     (λ n.
     if eqb n 253 then does (modes true true) (det (38 ∷ 251 ∷ []))
     else if eqb n 251 then does unchanged (det (38 ∷ 254 ∷ []))
@@ -296,12 +275,19 @@ every-value = end-swept value (λ n. record { ready = refl; found = refl }) tt
 
 -- ---- whatever the parameters
 
--- 1 to 4 answer the terminal's own map and 41 nothing, whatever their parameters are, on every view
+-- 1 to 4 keep the map received in the place of the class's, and answer the terminal's own; 41 nothing, whatever its parameters are
+abbrev answered : View → Maps → List ℕ → Effect
+answered v received payload = saying (withFrame v (withReceived (v .frame) received)) (bytes (det payload) ∷ [])
+
 pub record Constant (v : View) (h : Held) : Type 0 where
-  pub edit-map : obeyed v (Facilities Editing) h ≡ saying v (bytes (det (1 ∷ 54 ∷ [])) ∷ [])
-  pub erase-map : obeyed v (Facilities Erasing) h ≡ saying v (bytes (det (2 ∷ 31 ∷ [])) ∷ [])
-  pub transmit-map : obeyed v (Facilities Transmitting) h ≡ saying v (bytes (det (3 ∷ 63 ∷ [])) ∷ [])
-  pub format-map : obeyed v (Facilities Formatting) h ≡ saying v (bytes (det (4 ∷ 144 ∷ 121 ∷ [])) ∷ [])
+  pub edit-map : let m = v .frame .received in obeyed v (Facilities Editing) h
+      ≡ answered v (maps (getD (h .bytes) 1 0) (m .erase) (m .transmit) (m .format0) (m .format1)) (1 ∷ 54 ∷ [])
+  pub erase-map : let m = v .frame .received in obeyed v (Facilities Erasing) h
+      ≡ answered v (maps (m .edit) (getD (h .bytes) 1 0) (m .transmit) (m .format0) (m .format1)) (2 ∷ 31 ∷ [])
+  pub transmit-map : let m = v .frame .received in obeyed v (Facilities Transmitting) h
+      ≡ answered v (maps (m .edit) (m .erase) (getD (h .bytes) 1 0) (m .format0) (m .format1)) (3 ∷ 63 ∷ [])
+  pub format-map : let m = v .frame .received in obeyed v (Facilities Formatting) h
+      ≡ answered v (maps (m .edit) (m .erase) (m .transmit) (getD (h .bytes) 1 0) (getD (h .bytes) 2 0)) (4 ∷ 144 ∷ 121 ∷ [])
   pub error-nothing : obeyed v Error h ≡ quiet v
 
 pub every-map : (v : View) (h : Held) → Constant v h
@@ -314,7 +300,8 @@ pub record Negotiates (v : View) : Type 0 where
   pub do-20-off : v .frame .det ≡ false
       → negotiated v Do 20 ≡ saying (withModes v true (v .frame .suppressed)) (bytes (255 ∷ 251 ∷ 20 ∷ []) ∷ [])
   pub do-20-on : v .frame .det ≡ true → negotiated v Do 20 ≡ quiet v
-  pub dont-20-on : v .frame .det ≡ true → negotiated v Dont 20 ≡ saying (withModes v false false) (bytes (255 ∷ 252 ∷ 20 ∷ []) ∷ [])
+  pub dont-20-on : v .frame .det ≡ true
+      → negotiated v Dont 20 ≡ saying (withFrame v (withReceived (switched (v .frame) false false) noMaps)) (bytes (255 ∷ 252 ∷ 20 ∷ []) ∷ [])
   pub dont-20-off : v .frame .det ≡ false → negotiated v Dont 20 ≡ quiet v
   -- 30: from 37 cells up
   pub do-30-off : v .frame .x3 ≡ false → leb 37 (v .frame .height * v .frame .width) ≡ true
@@ -322,8 +309,7 @@ pub record Negotiates (v : View) : Type 0 where
   pub do-30-small : v .frame .x3 ≡ false → leb 37 (v .frame .height * v .frame .width) ≡ false
       → negotiated v Do 30 ≡ saying v (bytes (255 ∷ 252 ∷ 30 ∷ []) ∷ [])
   pub do-30-on : v .frame .x3 ≡ true → negotiated v Do 30 ≡ quiet v
-  pub dont-30-on : v .frame .x3 ≡ true
-      → negotiated v Dont 30 ≡ saying (withFrame v (withX3 (v .frame) false)) (bytes (255 ∷ 252 ∷ 30 ∷ []) ∷ [])
+  pub dont-30-on : v .frame .x3 ≡ true → negotiated v Dont 30 ≡ saying (withFrame v (withX3 (v .frame) false)) (bytes (255 ∷ 252 ∷ 30 ∷ []) ∷ [])
   pub dont-30-off : v .frame .x3 ≡ false → negotiated v Dont 30 ≡ quiet v
   pub do-other : (option : ℕ) → eqb option 20 ≡ false → eqb option 30 ≡ false
       → negotiated v Do option ≡ saying v (bytes (255 ∷ 252 ∷ option ∷ []) ∷ [])

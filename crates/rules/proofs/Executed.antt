@@ -14,13 +14,14 @@ use Rattle.rules.specs.declared.Held.{Held}
 use Rattle.rules.specs.declared.Reader.{Reader}
 use Rattle.rules.specs.declared.Pad.{Pad}
 use Rattle.rules.specs.declared.Fault.{Fault}
-use Rattle.rules.specs.declared.Fault.the-variants.{NoFault, UnknownCode, OffScreen, TooManyParameters, TooFewParameters, BadValue, BadMap}
+use Rattle.rules.specs.declared.Fault.the-variants.{NoFault, NotAgreed, UnknownCode, OffScreen, TooManyParameters, TooFewParameters, BadValue, BadMap}
 use Rattle.rules.specs.declared.Refusal.the-variants.{Taken}
 use Rattle.rules.specs.Number.{detOption}
 use Rattle.rules.specs.Session.{View, State, printable}
 use Rattle.rules.specs.Refusal.{isTaken}
 use Rattle.rules.specs.Effect.{Effect, Executed}
-use Rattle.rules.specs.Command.{Row, rows, Listed, listed, unlisted, rowOf, codeIn, reaches, reachesPast}
+use Rattle.rules.specs.Facility.{agreed}
+use Rattle.rules.specs.Command.{Row, rows, Listed, listed, unlisted, rowOf, codeIn, reaches, reachesPast, faultOf}
 use Rattle.rules.specs.Cursor.{cursorGuarded}
 use Rattle.rules.specs.Telnet.{optionOf, isOn, accepts, switchedOn, switchedOff, negotiated, hostCharacter, hostData}
 use Rattle.rules.specs.Pad.{passes}
@@ -51,6 +52,7 @@ module _ (v : View) (h : Held) where
   unfolding judged
   erring-none r NoFault p = absurd (p refl)
   erring-none r OffScreen p = refl
+  erring-none r NotAgreed p = refl
   erring-none r UnknownCode p = refl
   erring-none r TooManyParameters p = refl
   erring-none r TooFewParameters p = refl
@@ -62,12 +64,17 @@ module _ (v : View) (h : Held) where
   unfolding subcommand
   known-none l e q = either (λ (s : Effect). s .executed ≡ []) (eqb (h .count) 0) (λ t. refl) (λ t. rw e q)
 
+  unagreed : (r : Row) → agreed (v .frame .received) (r .governor) ≡ false → faultOf v (r .command) (r .parameters) (r .governor) h ≡ NotAgreed
+  unfolding faultOf
+  unagreed r a = rw a
+
   pub subcommand-executes : SubcommandExecutes v h
   unfolding subcommand looked judged
   subcommand-executes =
       record {
         itself = λ r e n f. rw (n, e, f);
         no-error = λ r e f. known-none (listed r) e (erring-none r _ f);
+        not-agreed = λ r e a. known-none (listed r) e (rw (unagreed r a));
         no-code = λ e. known-none unlisted e refl;
         no-byte = λ e. rw e;
       }
@@ -157,6 +164,7 @@ module _ (v : View) (h : Held) where
   unfolding judged
   found-judged r e NoFault = (e, tt)
   found-judged r e OffScreen = tt
+  found-judged r e NotAgreed = tt
   found-judged r e UnknownCode = tt
   found-judged r e TooManyParameters = tt
   found-judged r e TooFewParameters = tt

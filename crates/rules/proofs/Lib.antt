@@ -3,6 +3,7 @@ pub mod Worked
 pub mod Shut
 pub mod Ready
 pub mod Slow
+pub mod Agreed
 pub mod All
 pub mod Rows
 pub mod Every

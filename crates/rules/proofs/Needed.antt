@@ -85,8 +85,8 @@ past (e ∷ es) = (if reachesPast (e .row) (e .held) then codeIn (e .held) ∷ [
 -- each code that is not of the seven, those that take parameters with several values; 38 with each value but 253
 unfoldable pub harmless : List (List ℕ)
 harmless =
-    (1 ∷ 0 ∷ []) ∷ (1 ∷ 1 ∷ []) ∷ (1 ∷ 253 ∷ []) ∷ (2 ∷ 0 ∷ []) ∷ (2 ∷ 31 ∷ []) ∷ (3 ∷ 0 ∷ []) ∷ (3 ∷ 255 ∷ [])
-    ∷ (4 ∷ 0 ∷ 0 ∷ []) ∷ (4 ∷ 253 ∷ 20 ∷ []) ∷ (5 ∷ 0 ∷ 0 ∷ []) ∷ (5 ∷ 3 ∷ 1 ∷ []) ∷ (5 ∷ 7 ∷ 0 ∷ [])
+    (1 ∷ 0 ∷ []) ∷ (1 ∷ 253 ∷ []) ∷ (1 ∷ 255 ∷ []) ∷ (2 ∷ 0 ∷ []) ∷ (2 ∷ 31 ∷ []) ∷ (3 ∷ 0 ∷ []) ∷ (3 ∷ 255 ∷ [])
+    ∷ (4 ∷ 253 ∷ 20 ∷ []) ∷ (4 ∷ 255 ∷ 255 ∷ []) ∷ (5 ∷ 0 ∷ 0 ∷ []) ∷ (5 ∷ 3 ∷ 1 ∷ []) ∷ (5 ∷ 7 ∷ 0 ∷ [])
     ∷ (8 ∷ []) ∷ (9 ∷ []) ∷ (10 ∷ []) ∷ (11 ∷ []) ∷ (12 ∷ []) ∷ (15 ∷ []) ∷ (16 ∷ []) ∷ (17 ∷ []) ∷ (19 ∷ [])
     ∷ (21 ∷ []) ∷ (23 ∷ []) ∷ (26 ∷ []) ∷ (30 ∷ []) ∷ (31 ∷ []) ∷ (32 ∷ []) ∷ (33 ∷ []) ∷ (34 ∷ []) ∷ (35 ∷ [])
     ∷ (37 ∷ 0 ∷ 32 ∷ []) ∷ (37 ∷ 1 ∷ 66 ∷ []) ∷ (37 ∷ 253 ∷ 65 ∷ []) ∷ (38 ∷ 254 ∷ []) ∷ (38 ∷ 251 ∷ []) ∷ (38 ∷ 252 ∷ [])
@@ -94,13 +94,13 @@ harmless =
     ∷ []
 
 -- Of the seven, those that are not executed: a 20 and two 36 that draw ERROR 9, 12 and 11; a 20 in a call refused for its room of
--- 113; a 20 left untaken, the 17 before it having been answered; a 20 after DONT 20.
+-- 113; a 20 left untaken, the 17 before it having been answered; a 20 after DONT 20, and a 22 after DO 20, which is not agreed.
 unfoldable pub attempts : List Call
 attempts =
     command (20 ∷ 0 ∷ []) ∷ command (36 ∷ 32 ∷ 0 ∷ 0 ∷ 1 ∷ []) ∷ command (36 ∷ 8 ∷ 0 ∷ 1 ∷ 0 ∷ [])
     ∷ host (subnegotiation 20 (20 ∷ [])) (replicate 113 0)
     ∷ bytes (subnegotiation 20 (17 ∷ []) ++ subnegotiation 20 (20 ∷ []))
-    ∷ bytes (0xff ∷ 0xfe ∷ 20 ∷ []) ∷ command (20 ∷ []) ∷ []
+    ∷ bytes (0xff ∷ 0xfe ∷ 20 ∷ []) ∷ command (20 ∷ []) ∷ bytes (0xff ∷ 0xfd ∷ 20 ∷ []) ∷ command (22 ∷ []) ∷ []
 
 -- The operator types 8 over the 7, deletes the 0, tabs to "mg ", sends. The host writes 75, runs each of the harmless, and attempts.
 unfoldable pub busy : List Call

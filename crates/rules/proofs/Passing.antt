@@ -8,7 +8,8 @@ use native.Mathlib.Nat.{sub-zero, zero-sub, suc-sub-suc}
 use native.Mathlib.Omega.{arith}
 use borrow.Author.Tests.{eqb-true}
 use lib.Dec.{eqb}
-use lib.ListN.{length, getD, drop, replicate, length-replicate}
+use lib.ListN.{length, getD, drop, replicate}
+use lib.Seq.{take-append-seam}
 use Rattle.telnet.specs.declared.Phase.{Phase}
 use Rattle.telnet.specs.declared.Phase.the-variants.{Rest, Iac, Negotiating, Opening, OpeningIac, Inside, InsideIac}
 use Rattle.telnet.specs.declared.Verb.{Verb}
@@ -21,7 +22,7 @@ use Rattle.screen.specs.Cells.{place}
 use Rattle.words.proofs.Laws.{not-both, true-or-false, less-or-not, and-left, and-right}
 use Rattle.rules.specs.declared.Refusal.{Refusal}
 use Rattle.rules.specs.Session.{Screen, State, cells, freshFrame, fresh, session, screen, state}
-use Rattle.rules.specs.Refusal.{isTaken, verdict, sizeTests}
+use Rattle.rules.specs.Refusal.{numberOf, isTaken, verdict, sizeTests}
 use Rattle.rules.specs.Operation.{
   Ran,
   Outcome,
@@ -38,12 +39,10 @@ use Rattle.rules.specs.Operation.{
 }
 use Rattle.rules.specs.Call.{called}
 use Rattle.rules.specs.cases.Vocabulary.{
-  Seen,
   look,
   lent,
   Brief,
   brief,
-  briefly,
   tell,
   inFull,
   Given,
@@ -54,7 +53,6 @@ use Rattle.rules.specs.cases.Vocabulary.{
   observedIn,
   toldIn,
   fullIn,
-  openTold,
   Case,
   case,
   opening,
@@ -135,11 +133,18 @@ briefOf ns pad held chars attrs replies =
       det = eqb (getD ns 6 0) 1;
       x3 = eqb (getD ns 7 0) 1;
       suppressed = eqb (getD ns 8 0) 1;
+      received = record {
+        edit = getD ns 9 0;
+        erase = getD ns 10 0;
+        transmit = getD ns 11 0;
+        format0 = getD ns 12 0;
+        format1 = getD ns 13 0;
+      };
     })
     (record {
-      phase = phaseOf (getD ns 12 0) (getD ns 13 0);
-      held = record { bytes = held; count = getD ns 11 0 };
-      cr = eqb (getD ns 9 0) 1;
+      phase = phaseOf (getD ns 17 0) (getD ns 18 0);
+      held = record { bytes = held; count = getD ns 16 0 };
+      cr = eqb (getD ns 14 0) 1;
     })
     pad)
     (screen chars attrs))
@@ -188,7 +193,7 @@ pad-equal p q len e =
 
 len-equal : (a b : Brief) → numbers a ≡ numbers b → a .left .session .pad .line .len ≡ b .left .session .pad .line .len
 unfolding numbers
-len-equal a b e = ap (λ ns. getD ns 10 0) e
+len-equal a b e = ap (λ ns. getD ns 15 0) e
 
 beside-equal : (a b : Brief) → a .left .session .pad ≡ b .left .session .pad → sameBeside a b ≡ true → a ≡ b
 unfolding sameBeside
@@ -237,39 +242,50 @@ drop-lent zero n = rw (sub-zero n)
 drop-lent (suc i) zero = rw (zero-sub (suc i))
 drop-lent (suc i) (suc n) = drop-lent i n ∙ rw (suc-sub-suc n i)
 
-ends-full : (r : Refusal) (s : State) (room taken : ℕ) (ran : Ran)
-    → look (unless r s (replicate room lent) (answering taken ran (replicate room lent))) ≡ inFull room (briefly r s taken ran)
-unfolding unless
-ends-full r s room taken ran =
-    true-or-false (isTaken r) (λ e. rw e (rw (drop-lent (length (ran .replies)) room))) (λ e. rw e (rw (sub-zero room)))
+-- a call that is refused, or else done
+abbrev pub briefly : Refusal → State → ℕ → Ran → Brief
+briefly r s taken ran = if isTaken r then brief 0 taken (ran .state) (ran .replies) else brief (numberOf r) 0 s []
 
--- a call
-pub call-full : (s : State) (g : Given) (room : ℕ) → look (called s (callWith g room)) ≡ inFull room (tell s g room)
-unfolding called hostBytes oneKey tell
-call-full s (heard input) room =
-    ends-full (hostRefusal s (replicate room lent)) s room _ (hostRan s (replicate room lent) input) ∙ rw (length-replicate room lent)
-call-full s (struck k) room = ends-full (keyRefusal s (replicate room lent) k) s room 1 (keyRan s k)
+module _ (r : Refusal) (s : State) (room taken : ℕ) (ran : Ran) where
+  abbrev ends : Outcome
+  ends = let buffer = replicate room lent in unless r s buffer (answering taken ran buffer)
 
-trials-full : (s : State) (ts : List Trial) → observedIn s ts ≡ fullIn ts (toldIn s ts)
-unfolding observedIn toldIn fullIn
-trials-full s [] = refl
-trials-full s (t ∷ ts) =
-    let one = call-full s (t .given) (t .room) in
-    ap₂ _∷_ one (ap (λ (o : Seen). observedIn (o .left) ts) one ∙ trials-full _ ts)
+  pub ends-full : look ends ≡ inFull room (briefly r s taken ran)
+  unfolding unless
+  ends-full =
+      true-or-false (isTaken r) (λ e. rw e (rw (drop-lent (length (ran .replies)) room)))
+      (λ e. rw e (rw (sub-zero room)))
 
--- an open
-open-full : (m n : ℕ) (b : Screen) → look (opened m n b) ≡ inFull 0 (openTold m n b)
+  ends-told : tell ends ≡ briefly r s taken ran
+  unfolding unless
+  ends-told = true-or-false (isTaken r) (λ e. rw e (rw take-append-seam)) (λ e. rw e)
+
+  ends-tell : look ends ≡ inFull room (tell ends)
+  ends-tell = ends-full ∙ ap (inFull room) (sym ends-told)
+
+call-tell : (s : State) (g : Given) (room : ℕ) → let o = called s (callWith g room) in look o ≡ inFull room (tell o)
+unfolding called hostBytes oneKey
+call-tell s (heard input) room =
+    let buffer = replicate room lent in ends-tell (hostRefusal s buffer) s room _ (hostRan s buffer input)
+call-tell s (struck k) room = ends-tell (keyRefusal s (replicate room lent) k) s room _ (keyRan s k)
+
+open-tell : (m n : ℕ) (b : Screen) → let o = opened m n b in look o ≡ inFull 0 (tell o)
 unfolding opened
-open-full m n b =
+open-tell m n b =
     let done : Ran = record { state = state (fresh m n) (blank (cells (freshFrame m n))); replies = []; executed = [] } in
-    ends-full (verdict (sizeTests (freshFrame m n) b)) (state (fresh 0 0) b) 0 0 done
+    ends-tell (verdict (sizeTests (freshFrame m n) b)) (state (fresh 0 0) b) 0 0 done
 
-case-full : (c : Case) → observedOf c ≡ fullOf c (told c)
-case-full (case title s ts) = trials-full s ts
-case-full (opening title m n b refusal s) = ap (λ o. o ∷ []) (open-full m n b)
+trials-tell : (s : State) (ts : List Trial) → observedIn s ts ≡ fullIn ts (toldIn s ts)
+unfolding observedIn toldIn fullIn
+trials-tell s [] = refl
+trials-tell s (t ∷ ts) = ap₂ _∷_ (call-tell s (t .given) (t .room)) (trials-tell _ ts)
+
+case-tell : (c : Case) → observedOf c ≡ fullOf c (told c)
+case-tell (case title s ts) = trials-tell s ts
+case-tell (opening title m n b refusal s) = ap (λ o. o ∷ []) (open-tell m n b)
 
 case-equal : (c : Case) → (if sameAll (told c) (stated c) then Unit {0} else Fails (titleOf c)) → observedOf c ≡ fullOf c (stated c)
-case-equal c p = case-full c ∙ ap (fullOf c) (told-stated c p)
+case-equal c p = case-tell c ∙ ap (fullOf c) (told-stated c p)
 
 pub each-equal : (cs : List Case) → Passes cs → observed cs ≡ expected cs
 each-equal [] p = refl

@@ -4,17 +4,17 @@ use mathlib.Core.Bool.{Bool, true, _&&_}
 use mathlib.Core.List.{List, [], _∷_, _++_}
 use Prim.Native.Nat.{ℕ, _<_}
 use lib.Dec.{leb}
-use lib.ListN.{replicate, length-replicate}
+use lib.ListN.{length, replicate}
 use Rattle.words.specs.Words.{if_then_else_}
 use Rattle.words.proofs.Laws.{either, and-left, and-right}
 use Rattle.rules.specs.declared.Refusal.{Refusal}
 use Rattle.rules.specs.declared.Refusal.the-variants.{Taken}
 use Rattle.rules.specs.Session.{State, replyRoom, allPrintable, sessionOk}
 use Rattle.rules.specs.Refusal.{Test, isTaken, verdict, sizeTests, stateTests}
-use Rattle.rules.specs.Operation.{Ran, running, takenOf, hostRefusal, pressTests, keyRan}
+use Rattle.rules.specs.Operation.{Ran, running, takenOf, hostRefusal, hostBytes, pressTests, keyRan, oneKey}
 use Rattle.rules.specs.Call.{host, key, called}
-use Rattle.rules.specs.cases.Vocabulary.{look, lent, Brief, briefly, inFull, heard, struck, tell}
-use Rattle.rules.proofs.Passing.{call-full}
+use Rattle.rules.specs.cases.Vocabulary.{look, lent, Brief, inFull}
+use Rattle.rules.proofs.Passing.{briefly, ends-full}
 -- the cases of document 01 are checked first
 use Rattle.rules.proofs.Shut.{shut-holds}
 
@@ -57,24 +57,22 @@ module _ (s : State) (room : ℕ) (e : ready s (replicate room lent) ≡ true) w
 
   -- a key has its own tests to pass
   pub key-full : (k : ℕ) → look (called s (key k buffer)) ≡ inFull room (briefly (verdict (pressTests s k)) s 1 (keyRan s k))
-  unfolding tell
+  unfolding called oneKey
   key-full k =
-      call-full s (struck k) room
-      ∙ rw (passed sizes (states ++ pressTests s k) sizes-passed ∙ passed states (pressTests s k) states-passed)
+      rw (passed sizes (states ++ pressTests s k) sizes-passed ∙ passed states (pressTests s k) states-passed)
+      (ends-full (verdict (pressTests s k)) s room 1 (keyRan s k))
 
   host-passed : hostRefusal s buffer ≡ Taken
   host-passed = passed sizes states sizes-passed ∙ all-passed states states-passed
 
-  room-there : leb (replyRoom (s .session .frame)) room ≡ true
+  room-there : leb (replyRoom (s .session .frame)) (length buffer) ≡ true
   unfolding passing stateTests
-  room-there =
-      rw (← length-replicate room lent)
-      (and-left _ _ (and-right (sessionOk (s .session)) _ (and-right (allPrintable (s .screen .chars)) _ states-passed)))
+  room-there = and-left _ _ (and-right (sessionOk (s .session)) _ (and-right (allPrintable (s .screen .chars)) _ states-passed))
 
   -- a host byte is taken
   pub byte-full : (b : ℕ) → look (called s (host (b ∷ []) buffer)) ≡ inFull room (briefly Taken s 1 (running s (b ∷ [])))
-  unfolding tell takenOf
-  byte-full b = call-full s (heard (b ∷ [])) room ∙ rw (host-passed, room-there)
+  unfolding called hostBytes takenOf
+  byte-full b = rw (host-passed, room-there) (ends-full Taken s room 1 (running s (b ∷ [])))
 
 -- a refusal leaves the PAD too
 pub pad-kept : (r : Refusal) (s : State) (taken : ℕ) (ran : Ran) → ran .state .session .pad ≡ s .session .pad

@@ -23,7 +23,7 @@ use Rattle.rules.specs.declared.Reader.{Reader}
 use Rattle.rules.specs.declared.Pad.{Pad}
 use Rattle.rules.specs.declared.Area.the-variants.{Unprotected}
 use Rattle.rules.specs.declared.Fault.{Fault}
-use Rattle.rules.specs.declared.Fault.the-variants.{NoFault, UnknownCode, OffScreen, TooManyParameters, TooFewParameters, BadValue, BadMap}
+use Rattle.rules.specs.declared.Fault.the-variants.{NoFault, NotAgreed, UnknownCode, OffScreen, TooManyParameters, TooFewParameters, BadValue, BadMap}
 use Rattle.rules.specs.declared.Key.{Key}
 use Rattle.rules.specs.declared.Key.the-variants.{Typed, Back, Tab, Send, Delete, Function, Meaningless}
 use Rattle.rules.specs.Session.{View, cursorCell}
@@ -243,6 +243,7 @@ module _ (v : View) (protecting : v .frame .suppressed ≡ false) where
   safe-judged : (r : Row) → SafeRow r → (h : Held) (f : Fault) → Allowed (v .attrs) (judged v r h f)
   unfolding judged noneReaches
   safe-judged r safe h NoFault = λ x. let e = safe h (not-true _ (and-left _ _ x)) in search
+  safe-judged r safe h NotAgreed = search
   safe-judged r safe h UnknownCode = search
   safe-judged r safe h OffScreen = search
   safe-judged r safe h TooManyParameters = search

@@ -12,31 +12,7 @@ use Rattle.rules.specs.Session.{State, screen}
 use Rattle.rules.specs.Refusal.{numberOf}
 use Rattle.rules.specs.Operation.{blank, opened}
 use Rattle.rules.specs.cases.Computing.{computing}
-use Rattle.rules.specs.cases.Vocabulary.{
-  Case,
-  Trial,
-  Passes,
-  characters,
-  case,
-  opening,
-  starting,
-  at,
-  modes,
-  reading,
-  afterCr,
-  showing,
-  attributed,
-  unchanged,
-  see,
-  hostTrial,
-  keyTrial,
-  refusedTrial,
-  heard,
-  struck,
-  observed,
-  expected,
-  seeing,
-}
+use Rattle.rules.specs.cases.Vocabulary.{Case, Trial, Passes, characters, case, opening, starting, at, modes, detOff, maps, asking, reading, afterCr, showing, attributed, unchanged, see, hostTrial, keyTrial, refusedTrial, heard, struck, observed, expected, seeing}
 use Rattle.rules.proofs.Passing.{each-equal, all-pass}
 -- the worked forms are checked first
 use Rattle.rules.proofs.Worked.{worked}
@@ -260,8 +236,10 @@ moves =
     ∷ form "8 up, 9 down, 10 left, 11 right" 3 0 (goes 8 3 0 ∷ goes 11 3 0 ∷ goes 9 3 1 ∷ goes 9 3 1 ∷ goes 10 2 1 ∷ [])
     ∷ form "steps back, and 17 answers 18 x y" 0 1 (goes 10 0 1 ∷ goes 8 0 0 ∷ goes 11 1 0 ∷ sends 17 1 0 (det (18 ∷ 1 ∷ 0 ∷ [])) ∷ [])
     ∷ form "1 to 4 answer the terminal's own map" 2 0
-    (hears (det (1 ∷ 0 ∷ [])) (det (1 ∷ 54 ∷ [])) ∷ hears (det (2 ∷ 0 ∷ [])) (det (2 ∷ 31 ∷ []))
-    ∷ hears (det (3 ∷ 0 ∷ [])) (det (3 ∷ 63 ∷ [])) ∷ hears (det (4 ∷ 0 ∷ 0 ∷ [])) (det (4 ∷ 144 ∷ 121 ∷ [])) ∷ [])
+    (reads (det (1 ∷ 7 ∷ [])) (asking (maps 7 255 255 255 255)) (det (1 ∷ 54 ∷ []))
+    ∷ reads (det (2 ∷ 0 ∷ [])) (asking (maps 7 0 255 255 255)) (det (2 ∷ 31 ∷ []))
+    ∷ reads (det (3 ∷ 9 ∷ [])) (asking (maps 7 0 9 255 255)) (det (3 ∷ 63 ∷ []))
+    ∷ reads (det (4 ∷ 1 ∷ 2 ∷ [])) (asking (maps 7 0 9 1 2)) (det (4 ∷ 144 ∷ 121 ∷ [])) ∷ [])
     ∷ form "41 has no answer and no effect" 2 0 (hears (det (41 ∷ 5 ∷ 3 ∷ [])) [] ∷ [])
     ∷ lifted "41 has no effect while suppressed" 2 0 (hears (det (41 ∷ 5 ∷ 3 ∷ [])) [] ∷ [])
     ∷ form "keys 128 and 143 send FN 1 and 16" 2 0 (press 128 2 0 (det (40 ∷ 1 ∷ [])) ∷ press 143 2 0 (det (40 ∷ 16 ∷ [])) ∷ [])
@@ -405,8 +383,9 @@ telnet-pass = (tt, (tt, (tt, (tt, (tt, (tt, (tt, (tt, (tt, (tt, (tt, (tt, (tt, (
 unfoldable pub data-cases : List Case
 data-cases =
     lifted "DONT 20 while on, DO 20 while off" 0 0
-    (reads (verb 254 20) (modes false false) (verb 252 20) ∷ hears (verb 254 20) [] ∷ hears (characters "x") [] ∷ hears (det (11 ∷ [])) []
-    ∷ reads (verb 253 20) (modes true false) (verb 251 20) ∷ hears (verb 253 20) [] ∷ sends 23 0 0 (from 0 0 "") ∷ [])
+    (reads (verb 254 20) detOff (verb 252 20) ∷ hears (verb 254 20) [] ∷ hears (characters "x") [] ∷ hears (det (11 ∷ [])) []
+    ∷ reads (verb 253 20) (modes true false) (verb 251 20) ∷ hears (verb 253 20) [] ∷ hears (det (23 ∷ [])) (det (41 ∷ 23 ∷ 1 ∷ []))
+    ∷ reads (det (3 ∷ 8 ∷ [])) (asking (maps 0 0 8 0 0)) (det (3 ∷ 63 ∷ [])) ∷ sends 23 0 0 (from 0 0 "") ∷ [])
     ∷ form "WILL is answered DONT, WONT not" 2 0
     (hears (verb 251 20) (verb 254 20) ∷ hears (verb 252 20) [] ∷ hears (verb 254 3) [] ∷ [])
     ∷ case "DO 3 and WILL 20 while DET is off" off (hears (verb 253 3) (verb 252 3) ∷ hears (verb 251 20) (verb 254 20) ∷ [])
@@ -483,7 +462,7 @@ refusals-pass = (tt, (tt, (tt, (tt, (tt, (tt, (tt, (tt, (tt, (tt, (tt, (tt, (tt,
 
 -- What it leaves: DET off, protection in effect, cursor (0,0), nothing half read or held. Lent are characters 200 and attribute bytes 9.
 abbrev begun : ℕ → ℕ → List ℕ → List ℕ → State
-begun m n chars attrs = modes false false (starting m n false chars attrs 0 0)
+begun m n chars attrs = detOff (starting m n false chars attrs 0 0)
 
 abbrev opens : String → ℕ → ℕ → Case
 opens title m n =

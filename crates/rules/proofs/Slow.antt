@@ -24,41 +24,8 @@ use Rattle.rules.specs.Pad.{lineTests, padTyped}
 use Rattle.rules.specs.Operation.{pressTests, keyRan}
 use Rattle.rules.specs.Call.{key, called}
 use Rattle.rules.specs.cases.Computing.{computing}
-use Rattle.rules.specs.cases.Vocabulary.{
-  look,
-  lent,
-  Brief,
-  brief,
-  briefly,
-  Case,
-  Trial,
-  Passes,
-  Sweep,
-  sweep,
-  Everywhere,
-  same,
-  failures,
-  characters,
-  case,
-  starting,
-  at,
-  modes,
-  reading,
-  afterCr,
-  x3Switched,
-  padded,
-  showing,
-  unchanged,
-  hostTrial,
-  keyTrial,
-  refusedTrial,
-  heard,
-  struck,
-  observed,
-  expected,
-  seeing,
-}
-use Rattle.rules.proofs.Passing.{each-equal, all-pass, same-equal, below-passes, Swept, everywhere}
+use Rattle.rules.specs.cases.Vocabulary.{look, lent, Brief, brief, Case, Trial, Passes, Sweep, sweep, Everywhere, same, failures, characters, case, starting, at, modes, detOff, reading, afterCr, x3Switched, padded, showing, unchanged, hostTrial, keyTrial, refusedTrial, heard, struck, observed, expected, seeing}
+use Rattle.rules.proofs.Passing.{each-equal, all-pass, same-equal, below-passes, briefly, Swept, everywhere}
 use Rattle.rules.proofs.Ready.{passing, ready, key-full, pad-kept}
 -- the cases of document 01 are checked first
 use Rattle.rules.proofs.Shut.{shut-holds}
@@ -79,8 +46,7 @@ row m on p = padded p (x3Switched on (modes false false (starting m 1 false (rep
 
 -- 40 by 2, blank, nothing protected, DET off and 30 on; the reply room is 562
 abbrev ward : List ℕ → List ℕ → State
-ward pairs text =
-    padded (holding pairs text) (x3Switched true (modes false false (starting 40 2 false (replicate 80 32) (replicate 80 0) 0 0)))
+ward pairs text = padded (holding pairs text) (x3Switched true (modes false false (starting 40 2 false (replicate 80 32) (replicate 80 0) 0 0)))
 
 -- afterwards: the cursor, the screen's text, the pairs set and the line
 abbrev shows : ℕ → ℕ → String → List ℕ → List ℕ → State → State
@@ -121,7 +87,7 @@ switching =
     (bytes (verb 254 30) (λ s. x3Switched false (padded (holding (3 ∷ 2 ∷ []) []) s)) (verb 252 30) ∷ [])
     ∷ case "DONT 30 while off leaves a line" (x3Switched false (ward [] (characters "ab"))) (bytes (verb 254 30) unchanged [] ∷ [])
     ∷ case "DONT 20 and DO 30 leave the line" (modes true false (x3Switched false (ward [] (characters "ab"))))
-    (bytes (verb 254 20) (modes false false) (verb 252 20) ∷ bytes (verb 253 30) (x3Switched true) (verb 251 30) ∷ [])
+    (bytes (verb 254 20) detOff (verb 252 20) ∷ bytes (verb 253 30) (x3Switched true) (verb 251 30) ∷ [])
     ∷ []
 
 pub switching-pass : Passes switching
@@ -139,15 +105,13 @@ messages =
     ∷ [])
     ∷ case "SEND with extension set 1, 255 doubled" (ward (10 ∷ 255 ∷ 20 ∷ 255 ∷ 128 ∷ 1 ∷ 129 ∷ 23 ∷ []) [])
     (bytes (x3 (4 ∷ [])) unchanged
-    (0xff ∷ 0xfa ∷ 0x1e ∷ 3 ∷ 0 ∷ 0 ∷ 1 ∷ 0 ∷ 2 ∷ 0 ∷ 3 ∷ 0 ∷ 4 ∷ 0 ∷ 5 ∷ 0 ∷ 6 ∷ 0 ∷ 7 ∷ 0 ∷ 8 ∷ 0 ∷ 9 ∷ 0 ∷ 10 ∷ 0xff ∷ 0xff
-    ∷ 11 ∷ 0 ∷ 12 ∷ 0
+    (0xff ∷ 0xfa ∷ 0x1e ∷ 3 ∷ 0 ∷ 0 ∷ 1 ∷ 0 ∷ 2 ∷ 0 ∷ 3 ∷ 0 ∷ 4 ∷ 0 ∷ 5 ∷ 0 ∷ 6 ∷ 0 ∷ 7 ∷ 0 ∷ 8 ∷ 0 ∷ 9 ∷ 0 ∷ 10 ∷ 0xff ∷ 0xff ∷ 11 ∷ 0 ∷ 12 ∷ 0
     ∷ 13 ∷ 0 ∷ 14 ∷ 0 ∷ 15 ∷ 0 ∷ 16 ∷ 0 ∷ 17 ∷ 0 ∷ 18 ∷ 0 ∷ 19 ∷ 0 ∷ 20 ∷ 0xff ∷ 0xff ∷ 21 ∷ 0 ∷ 22 ∷ 0
     ∷ 128 ∷ 1 ∷ 129 ∷ 23 ∷ 130 ∷ 19 ∷ 131 ∷ 17 ∷ 132 ∷ 0 ∷ 0xff ∷ 0xf0 ∷ [])
     ∷ [])
     ∷ case "SET acts at its end, RESPONSE-SET too" (ward [] [])
     (bytes (0xff ∷ 0xfa ∷ 30 ∷ 0 ∷ 2 ∷ 1 ∷ [])
-    (λ s. padded (half [] [] (record { stage = Parameter 0; copy = withPairs startValues (2 ∷ 1 ∷ []) }))
-    (reading (Inside 30) (0 ∷ 2 ∷ 1 ∷ []) s)) []
+    (λ s. padded (half [] [] (record { stage = Parameter 0; copy = withPairs startValues (2 ∷ 1 ∷ []) })) (reading (Inside 30) (0 ∷ 2 ∷ 1 ∷ []) s)) []
     ∷ bytes (0xff ∷ 0xf0 ∷ []) (λ s. padded (holding (2 ∷ 1 ∷ []) []) (reading Rest [] s)) []
     ∷ bytes (x3 (1 ∷ 3 ∷ 2 ∷ [])) (padded (holding (2 ∷ 1 ∷ 3 ∷ 2 ∷ []) [])) [] ∷ [])
     ∷ case "a message longer than the bytes held" (ward [] [])
@@ -165,9 +129,7 @@ messages =
     (bytes (0xff ∷ 0xfa ∷ 21 ∷ []) (λ s. padded (holding [] []) (reading (Inside 21) [] s)) [] ∷ [])
     ∷ case "IAC SB IAC SE clears it too" (padded (half [] [] (record { stage = Value 0 2; copy = startValues })) (ward [] []))
     (bytes (0xff ∷ 0xfa ∷ 0xff ∷ 0xf0 ∷ []) (padded (holding [] [])) [] ∷ [])
-    ∷ case "what is half read of another option does not act"
-    (padded (half [] [] (record { stage = Parameter 0; copy = withPairs startValues (2 ∷ 1 ∷ []) }))
-    (reading (Inside 21) [] (ward [] [])))
+    ∷ case "what is half read of another option does not act" (padded (half [] [] (record { stage = Parameter 0; copy = withPairs startValues (2 ∷ 1 ∷ []) })) (reading (Inside 21) [] (ward [] [])))
     (bytes (7 ∷ 0xff ∷ 0xf0 ∷ []) (λ s. padded (holding [] []) (reading Rest [] s)) [] ∷ [])
     ∷ []
 
@@ -177,7 +139,7 @@ messages-pass = (tt, (tt, (tt, (tt, (tt, (tt, (tt, (tt, (tt, (tt, (tt, (tt, tt))
 
 -- ---- keys
 
--- echo, forwarding at CR, editing with BS as character delete and signals for a display
+-- echo, forwarding at CR, x3Switched with BS as character delete and signals for a display
 abbrev display : List ℕ
 display = 2 ∷ 1 ∷ 3 ∷ 2 ∷ 15 ∷ 1 ∷ 16 ∷ 8 ∷ 19 ∷ 2 ∷ []
 
@@ -204,16 +166,14 @@ typing =
     ∷ case "a full line goes out with its forwarding key" (ward (3 ∷ 8 ∷ []) (replicate 128 65))
     (types 127 (padded (holding (3 ∷ 8 ∷ []) [])) (replicate 128 65 ++ (127 ∷ [])) ∷ [])
     ∷ case "echo on a guarded cell is dropped, class is not tested"
-    (padded (holding (2 ∷ 1 ∷ []) [])
-    (x3Switched true (modes false false (starting 20 2 false (replicate 40 32) (24 ∷ 8 ∷ replicate 38 0) 0 0))))
+    (padded (holding (2 ∷ 1 ∷ []) []) (x3Switched true (modes false false (starting 20 2 false (replicate 40 32) (24 ∷ 8 ∷ replicate 38 0) 0 0))))
     (keyTrial 282 65 (λ s. padded (holding (2 ∷ 1 ∷ []) (65 ∷ [])) (at 1 0 (showing (65 ∷ replicate 39 32) s))) []
     ∷ keyTrial 282 66 (padded (holding (2 ∷ 1 ∷ []) (65 ∷ 66 ∷ []))) [] ∷ [])
     ∷ case "DET on: the line is kept, keys are document 01's" (ward (3 ∷ 2 ∷ []) (97 ∷ []))
     (bytes (verb 253 20) (modes true false) (verb 251 20) ∷ types 98 (λ s. at 1 0 (showing (98 ∷ replicate 79 32) s)) []
-    ∷ types 127 unchanged [] ∷ bytes (verb 254 20) (modes false false) (verb 252 20)
+    ∷ types 127 unchanged [] ∷ bytes (verb 254 20) detOff (verb 252 20)
     ∷ types 13 (padded (holding (3 ∷ 2 ∷ []) [])) (97 ∷ 13 ∷ 0 ∷ []) ∷ [])
-    ∷ case "output is not discarded, whatever parameter 8" (ward (8 ∷ 1 ∷ []) [])
-    (bytes (characters "x") (shows 1 0 "x" (8 ∷ 1 ∷ []) []) [] ∷ [])
+    ∷ case "output is not discarded, whatever parameter 8" (ward (8 ∷ 1 ∷ []) []) (bytes (characters "x") (shows 1 0 "x" (8 ∷ 1 ∷ []) []) [] ∷ [])
     ∷ []
 
 pub typing-pass : Passes typing
@@ -253,16 +213,12 @@ forged p = padded p (ward [] [])
 unfoldable pub ranges : List Case
 ranges =
     refused "refusal 4, option 30 on at 36 cells" (row 36 true (holding [] []))
-    ∷ refused "refusal 4, a value that is not admissible"
-    (forged (padWith (record { held = replicate 4 0 ++ (1 ∷ replicate 23 0) }) (lineOf []) idleMessage))
-    ∷ refused "refusal 4, one in the copy"
-    (forged (padWith startValues (lineOf []) (record { stage = Code; copy = record { held = replicate 21 0 ++ (4 ∷ replicate 6 0) } })))
+    ∷ refused "refusal 4, a value that is not admissible" (forged (padWith (record { held = replicate 4 0 ++ (1 ∷ replicate 23 0) }) (lineOf []) idleMessage))
+    ∷ refused "refusal 4, one in the copy" (forged (padWith startValues (lineOf []) (record { stage = Code; copy = record { held = replicate 21 0 ++ (4 ∷ replicate 6 0) } })))
     ∷ refused "refusal 4, a line above 128" (forged (padWith startValues (record { bytes = replicate 128 65; len = 129 }) idleMessage))
-    ∷ refused "refusal 4, a character above 127 in the line"
-    (forged (padWith startValues (record { bytes = 65 ∷ 128 ∷ replicate 126 0; len = 2 }) idleMessage))
+    ∷ refused "refusal 4, a character above 127 in the line" (forged (padWith startValues (record { bytes = 65 ∷ 128 ∷ replicate 126 0; len = 2 }) idleMessage))
     -- past the line's length any byte may stand; a key that the line takes leaves zeros there
-    ∷ case "bytes past the line's length have no range"
-    (forged (padWith startValues (record { bytes = 65 ∷ replicate 127 255; len = 1 }) idleMessage))
+    ∷ case "bytes past the line's length have no range" (forged (padWith startValues (record { bytes = 65 ∷ replicate 127 255; len = 1 }) idleMessage))
     (bytes [] unchanged [] ∷ types 66 (padded (holding [] (65 ∷ 66 ∷ []))) [] ∷ [])
     ∷ []
 

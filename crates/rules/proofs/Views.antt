@@ -16,7 +16,8 @@ use Rattle.screen.proofs.CellLaws.{cell-lt, place-on-screen}
 use Rattle.screen.proofs.FieldLaws.{start-le, nextOpen-lt}
 use Rattle.rules.specs.declared.Destination.{Destination}
 use Rattle.rules.specs.declared.Destination.the-variants.{Up, Down, Left, Right, Corner, LineStart, NextLine, NextCell, Home, ReverseTab, FirstField, NextField, NextOpen, PreviousOpen}
-use Rattle.rules.specs.Session.{View, x3Cells, withX3, cursorCell, withCursor, withModes, withFrame, withAttrs}
+use Rattle.rules.specs.declared.Maps.{Maps}
+use Rattle.rules.specs.Session.{View, x3Cells, withX3, withReceived, cursorCell, withCursor, withModes, withFrame, withAttrs}
 use Rattle.rules.specs.Cursor.{limited, oneMore, nextCell, homeCell, backTabCell, firstFieldCell, nextFieldCell, previousOpenCell, destination, sentTo}
 -- the sentences of document 01 are checked first, so that a wrong rule is refused there
 use Rattle.rules.proofs.Causes.{nothing-else}
@@ -56,6 +57,10 @@ module _ {m n : ℕ} {v : View} (k : SoundView m n v) where
   -- other modes
   pub switched : (det suppressed : Bool) → SoundView m n (withModes v det suppressed)
   switched det suppressed = record { sizes = k .sizes; cursor = k .cursor; attrs = k .attrs; x3 = k .x3 }
+
+  -- other maps received
+  pub asked : (m₁ : Maps) → SoundView m n (withFrame v (withReceived (v .frame) m₁))
+  asked m₁ = record { sizes = k .sizes; cursor = k .cursor; attrs = k .attrs; x3 = k .x3 }
 
   -- option 30 on, from its cells up, or off
   pub turned-x3 : (on : Bool) → (on ≡ true → x3Cells ≤ n * m) → SoundView m n (withFrame v (withX3 (v .frame) on))

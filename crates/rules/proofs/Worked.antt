@@ -7,37 +7,22 @@ use Prim.Native.String.{String}
 use lib.ListN.{length, replicate}
 use Rattle.rules.specs.Session.{State}
 use Rattle.rules.specs.cases.Computing.{computing}
-use Rattle.rules.specs.cases.Vocabulary.{
-  Case,
-  Trial,
-  characters,
-  case,
-  starting,
-  at,
-  unchanged,
-  see,
-  hostTrial,
-  keyTrial,
-  refusedTrial,
-  struck,
-  observed,
-  expected,
-  Passes,
-  seeing,
-}
+use Rattle.rules.specs.cases.Vocabulary.{Case, Trial, characters, case, starting, at, unchanged, see, hostTrial, keyTrial, refusedTrial, struck, observed, expected, Passes, seeing}
 use Rattle.rules.proofs.Passing.{each-equal}
 
--- Form F: 8 by 2, "WT 70 #4" over "UNIT mg "; "70 " and "mg " have attribute 0, the rest 8. DET is on. The reply room is 114.
-abbrev formF : String → ℕ → ℕ → List Trial → Case
-formF title x y trials =
-    case title
-    (starting 8 2 false
+-- Form F: 8 by 2, "WT 70 #4" over "UNIT mg "; "70 " and "mg " have attribute 0, the rest 8. DET is on, and all facilities are agreed. The
+-- reply room is 114.
+abbrev pub startF : ℕ → ℕ → State
+startF x y =
+    starting 8 2 false
     (characters "WT 70 #4UNIT mg ")
-    (replicate 3 8 ++ (replicate 3 0 ++ (replicate 7 8 ++ replicate 3 0))) x y)
-    trials
+    (replicate 3 8 ++ (replicate 3 0 ++ (replicate 7 8 ++ replicate 3 0))) x y
+
+abbrev formF : String → ℕ → ℕ → List Trial → Case
+formF title x y trials = case title (startF x y) trials
 
 -- what is given, all of it taken; what it leaves; its reply
-abbrev bytes : List ℕ → (State → State) → List ℕ → Trial
+abbrev pub bytes : List ℕ → (State → State) → List ℕ → Trial
 bytes input leaves replies = hostTrial 114 input (length input) leaves replies
 
 unfoldable pub forms : List Case

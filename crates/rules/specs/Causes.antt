@@ -1,5 +1,5 @@
--- Documents 01 and 02: what alone may change the attribute bytes, the options, suppression, the characters, the cursor, and what the
--- PAD keeps. Nothing here is used by the rules: these are sentences about them.
+-- Documents 01 and 02: what alone may change the attribute bytes, the options, suppression, the maps received, the characters, the
+-- cursor, and what the PAD keeps. Nothing here is used by the rules: these are sentences about them.
 use mathlib.Core.Path.{_≡_}
 use mathlib.Core.Bool.{Bool, true, false, not, _&&_, _||_}
 use mathlib.Core.List.{List, [], _∷_}
@@ -32,6 +32,7 @@ pub data Aspect : Type 0 where
   det : Aspect
   x3 : Aspect
   suppression : Aspect
+  maps : Aspect  -- received
   characters : Aspect
   cursor : Aspect
   values : Aspect  -- of the PAD's parameters
@@ -42,6 +43,7 @@ Same attributes s t = t .screen .attrs ≡ s .screen .attrs
 Same det s t = t .session .frame .det ≡ s .session .frame .det
 Same x3 s t = t .session .frame .x3 ≡ s .session .frame .x3
 Same suppression s t = t .session .frame .suppressed ≡ s .session .frame .suppressed
+Same maps s t = t .session .frame .received ≡ s .session .frame .received
 Same characters s t = t .screen .chars ≡ s .screen .chars
 Same cursor s t = t .session .frame .cursor ≡ s .session .frame .cursor
 Same values s t = t .session .pad .values ≡ s .session .pad .values
@@ -83,6 +85,18 @@ changers x3 = switches 30 (253 ∷ 254 ∷ [])
 -- nothing but 38 and DONT 20
 changers suppression =
     record { text = none; executed = 38 ∷ []; failed = []; option = 20; verbs = 254 ∷ []; messages = []; keys = none; typed = none }
+-- nothing but 1 to 4 and DONT 20
+changers maps =
+    record {
+      text = none;
+      executed = 1 ∷ 2 ∷ 3 ∷ 4 ∷ [];
+      failed = [];
+      option = 20;
+      verbs = 254 ∷ [];
+      messages = [];
+      keys = none;
+      typed = none;
+    }
 -- nothing but host text, 37, the shifts 15, 16 and key 127, the erasures 29 to 35, typing, and what the edit line echoes, where a 0
 -- shows nothing
 changers characters =

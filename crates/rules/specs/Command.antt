@@ -1,4 +1,5 @@
--- Document 01, "Subcommands": the list of commands, the ERROR that one draws, and the seven that reach past protection.
+-- Document 01, "Subcommands", and document 02, request (ii): the list of commands, what governs each, the ERROR that one draws, and the
+-- seven that reach past protection.
 use mathlib.Core.Bool.{Bool, true, false, not, _&&_}
 use mathlib.Core.List.{List, [], _∷_}
 use Prim.Native.Nat.{ℕ, suc, _+_, _*_}
@@ -36,11 +37,41 @@ use Rattle.rules.specs.declared.Command.the-variants.{
   SuppressProtection,
   Error,
 }
+use Rattle.rules.specs.declared.Governor.{Governor}
+use Rattle.rules.specs.declared.Governor.the-variants.{Ungoverned}
 use Rattle.rules.specs.declared.Code.{Code}
 use Rattle.rules.specs.declared.Code.the-variants.{Known, Unknown}
 use Rattle.rules.specs.declared.Fault.{Fault}
-use Rattle.rules.specs.declared.Fault.the-variants.{NoFault, OffScreen, TooManyParameters, TooFewParameters, BadValue, BadMap}
+use Rattle.rules.specs.declared.Fault.the-variants.{
+  NoFault,
+  NotAgreed,
+  OffScreen,
+  TooManyParameters,
+  TooFewParameters,
+  BadValue,
+  BadMap,
+}
 use Rattle.rules.specs.Session.{View, printable, cursorCell, screenEnd}
+use Rattle.rules.specs.Facility.{
+  incrementalAddressing,
+  readCursorAddress,
+  charInsertDelete,
+  backTab,
+  eraseField,
+  eraseLine,
+  eraseRestOfScreen,
+  eraseRestOfLine,
+  eraseRestOfField,
+  transmitLine,
+  transmitField,
+  transmitRestOfScreen,
+  transmitRestOfLine,
+  transmitRestOfField,
+  repeating,
+  protectionOnOff,
+  protection,
+  agreed,
+}
 
 -- ---- the list
 
@@ -54,47 +85,50 @@ pub record Row : Type 0 where
   pub code : ℕ
   pub command : Command
   pub parameters : ℕ
+  pub governor : Governor
   pub past : Reach
 
-abbrev pub row : ℕ → Command → ℕ → Reach → Row
-row code command parameters past = record { code = code; command = command; parameters = parameters; past = past }
+abbrev pub row : ℕ → Command → ℕ → Governor → Reach → Row
+row code command parameters governor past =
+    record { code = code; command = command; parameters = parameters; governor = governor; past = past }
 
--- Each command by its code, with its number of parameters: one map byte for 1 to 3, two for 4, none where none are listed. The last
--- column marks the seven that reach past protection. All other codes draw ERROR 2.
+-- Each command by its code, with its number of parameters: one map byte for 1 to 3, two for 4, none where none are listed. Then the
+-- facility that governs it (request (ii)), if one does. The last column marks the seven that reach past protection. All other codes draw
+-- ERROR 2.
 unfoldable pub rows : List Row
 rows =
-    row 1 (Facilities Editing) 1 never
-    ∷ row 2 (Facilities Erasing) 1 never
-    ∷ row 3 (Facilities Transmitting) 1 never
-    ∷ row 4 (Facilities Formatting) 2 never
-    ∷ row 5 MoveCursor 2 never
-    ∷ row 8 (Move Up) 0 never
-    ∷ row 9 (Move Down) 0 never
-    ∷ row 10 (Move Left) 0 never
-    ∷ row 11 (Move Right) 0 never
-    ∷ row 12 (Move Home) 0 never
-    ∷ row 15 (CharShift Insertion) 0 never
-    ∷ row 16 (CharShift Deletion) 0 never
-    ∷ row 17 ReadCursor 0 never
-    ∷ row 19 (Move ReverseTab) 0 never
-    ∷ row 20 (Transmit WholeScreen) 0 always
-    ∷ row 21 (Transmit Unprotected) 0 never
-    ∷ row 22 (Transmit WholeLine) 0 always
-    ∷ row 23 (Transmit WholeField) 0 never
-    ∷ row 24 (Transmit RestOfScreen) 0 always
-    ∷ row 25 (Transmit RestOfLine) 0 always
-    ∷ row 26 (Transmit RestOfField) 0 never
-    ∷ row 29 (Erase WholeScreen) 0 always
-    ∷ row 30 (Erase WholeLine) 0 never
-    ∷ row 31 (Erase WholeField) 0 never
-    ∷ row 32 (Erase RestOfScreen) 0 never
-    ∷ row 33 (Erase RestOfLine) 0 never
-    ∷ row 34 (Erase RestOfField) 0 never
-    ∷ row 35 (Erase Unprotected) 0 never
-    ∷ row 36 FormatData 4 always
-    ∷ row 37 Repeat 2 never
-    ∷ row 38 SuppressProtection 1 (onlyWith (verbCode Do))
-    ∷ row 41 Error 2 never
+    row 1 (Facilities Editing) 1 Ungoverned never
+    ∷ row 2 (Facilities Erasing) 1 Ungoverned never
+    ∷ row 3 (Facilities Transmitting) 1 Ungoverned never
+    ∷ row 4 (Facilities Formatting) 2 Ungoverned never
+    ∷ row 5 MoveCursor 2 Ungoverned never
+    ∷ row 8 (Move Up) 0 incrementalAddressing never
+    ∷ row 9 (Move Down) 0 incrementalAddressing never
+    ∷ row 10 (Move Left) 0 incrementalAddressing never
+    ∷ row 11 (Move Right) 0 incrementalAddressing never
+    ∷ row 12 (Move Home) 0 Ungoverned never
+    ∷ row 15 (CharShift Insertion) 0 charInsertDelete never
+    ∷ row 16 (CharShift Deletion) 0 charInsertDelete never
+    ∷ row 17 ReadCursor 0 readCursorAddress never
+    ∷ row 19 (Move ReverseTab) 0 backTab never
+    ∷ row 20 (Transmit WholeScreen) 0 Ungoverned always
+    ∷ row 21 (Transmit Unprotected) 0 protection never
+    ∷ row 22 (Transmit WholeLine) 0 transmitLine always
+    ∷ row 23 (Transmit WholeField) 0 transmitField never
+    ∷ row 24 (Transmit RestOfScreen) 0 transmitRestOfScreen always
+    ∷ row 25 (Transmit RestOfLine) 0 transmitRestOfLine always
+    ∷ row 26 (Transmit RestOfField) 0 transmitRestOfField never
+    ∷ row 29 (Erase WholeScreen) 0 Ungoverned always
+    ∷ row 30 (Erase WholeLine) 0 eraseLine never
+    ∷ row 31 (Erase WholeField) 0 eraseField never
+    ∷ row 32 (Erase RestOfScreen) 0 eraseRestOfScreen never
+    ∷ row 33 (Erase RestOfLine) 0 eraseRestOfLine never
+    ∷ row 34 (Erase RestOfField) 0 eraseRestOfField never
+    ∷ row 35 (Erase Unprotected) 0 protection never
+    ∷ row 36 FormatData 4 Ungoverned always
+    ∷ row 37 Repeat 2 repeating never
+    ∷ row 38 SuppressProtection 1 protectionOnOff (onlyWith (verbCode Do))
+    ∷ row 41 Error 2 Ungoverned never
     ∷ []
 
 -- a code is in the list, or is not
@@ -111,7 +145,7 @@ rowOf code = rowIn rows code
 
 -- what the list says of a code
 unfoldable pub meaning : Listed → Code
-meaning (listed r) = Known (r .command) (r .parameters)
+meaning (listed r) = Known (r .command) (r .parameters) (r .governor)
 meaning unlisted = Unknown
 
 -- ---- a command's bytes
@@ -159,9 +193,11 @@ valueFault v (Transmit area) h = NoFault
 valueFault v (Erase area) h = NoFault
 valueFault v Error h = NoFault
 
--- Check order, the code being known: parameter count, else 10 (too few) or 9 (too many); then values. The code is among the bytes held.
-unfoldable pub faultOf : View → Command → ℕ → Held → Fault
-faultOf v c parameters h =
-    if ltb (h .count) (parameters + 1) then TooFewParameters
+-- Check order, the code being known: its facility agreed, else 1; parameter count, else 10 (too few) or 9 (too many); then values. The
+-- code is among the bytes held.
+unfoldable pub faultOf : View → Command → ℕ → Governor → Held → Fault
+faultOf v c parameters governor h =
+    if not (agreed (v .frame .received) governor) then NotAgreed
+    else if ltb (h .count) (parameters + 1) then TooFewParameters
     else if ltb (parameters + 1) (h .count) then TooManyParameters
     else valueFault v c h

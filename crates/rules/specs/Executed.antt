@@ -17,6 +17,7 @@ use Rattle.rules.specs.declared.Fault.the-variants.{NoFault}
 use Rattle.rules.specs.Session.{View, State, viewOf}
 use Rattle.rules.specs.Effect.{Executed}
 use Rattle.rules.specs.Command.{Row, listed, unlisted, rowOf, codeIn, reachesPast, faultOf}
+use Rattle.rules.specs.Facility.{agreed}
 use Rattle.rules.specs.Subcommand.{subcommand}
 use Rattle.rules.specs.Operation.{happening, hostByte, running}
 use Rattle.rules.specs.Call.{Call, host, key, called, left, executedBy, executedOf}
@@ -37,12 +38,15 @@ isSeven code first = oneOf (20 ∷ 22 ∷ 24 ∷ 25 ∷ 29 ∷ 36 ∷ []) code |
 abbrev pub Seven : Type 0
 Seven = (code : ℕ) (r : Row) (h : Held) → rowOf code ≡ listed r → reachesPast r h ≡ isSeven code (getD (h .bytes) 1 0)
 
--- ---- what a subcommand executes: itself where its code is in the list and it draws no ERROR, and else nothing
+-- ---- what a subcommand executes: itself where its code is in the list, its facility is agreed and it draws no ERROR, and else nothing
 
 pub record SubcommandExecutes (v : View) (h : Held) : Type 0 where
-  pub itself : (r : Row) → rowOf (codeIn h) ≡ listed r → eqb (h .count) 0 ≡ false → faultOf v (r .command) (r .parameters) h ≡ NoFault
+  pub itself : (r : Row) → rowOf (codeIn h) ≡ listed r → eqb (h .count) 0 ≡ false
+      → faultOf v (r .command) (r .parameters) (r .governor) h ≡ NoFault
       → (subcommand v h) .executed ≡ record { row = r; held = h } ∷ []
-  pub no-error : (r : Row) → rowOf (codeIn h) ≡ listed r → (faultOf v (r .command) (r .parameters) h ≡ NoFault → ⊥)
+  pub no-error : (r : Row) → rowOf (codeIn h) ≡ listed r → (faultOf v (r .command) (r .parameters) (r .governor) h ≡ NoFault → ⊥)
+      → (subcommand v h) .executed ≡ []
+  pub not-agreed : (r : Row) → rowOf (codeIn h) ≡ listed r → agreed (v .frame .received) (r .governor) ≡ false
       → (subcommand v h) .executed ≡ []
   pub no-code : rowOf (codeIn h) ≡ unlisted → (subcommand v h) .executed ≡ []
   pub no-byte : eqb (h .count) 0 ≡ true → (subcommand v h) .executed ≡ []

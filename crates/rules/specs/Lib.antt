@@ -1,6 +1,7 @@
 pub mod Session
 pub mod Number
 pub mod Refusal
+pub mod Facility
 pub mod Command
 pub mod Effect
 pub mod Cursor

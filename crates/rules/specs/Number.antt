@@ -1,12 +1,10 @@
 -- The numbers of the protocol, by the names that the papers give them. Codes that the terminal receives stand in the list of
 -- Command.antt, the Telnet bytes and verbs in telnet's Reader.antt.
-use mathlib.Core.List.{List, [], _∷_}
 use Prim.Native.Nat.{ℕ}
-use Rattle.rules.specs.declared.Facility.{Facility}
-use Rattle.rules.specs.declared.Facility.the-variants.{Editing, Erasing, Transmitting, Formatting}
 use Rattle.rules.specs.declared.Fault.{Fault}
 use Rattle.rules.specs.declared.Fault.the-variants.{
   NoFault,
+  NotAgreed,
   UnknownCode,
   OffScreen,
   TooManyParameters,
@@ -47,17 +45,10 @@ fn = 40
 abbrev pub error : ℕ
 error = 41
 
--- 1 to 4 are answered with their own code and the terminal's own map. The erase map has the bits of the five partial erasures,
--- 0 to 4 in source document 000.
-unfoldable pub ownMap : Facility → List ℕ
-ownMap Editing = 1 ∷ 54 ∷ []
-ownMap Erasing = 2 ∷ 31 ∷ []
-ownMap Transmitting = 3 ∷ 63 ∷ []
-ownMap Formatting = 4 ∷ 144 ∷ 121 ∷ []
-
 -- ERROR's numbers; 0 where there is none
 abbrev pub faultNumber : Fault → ℕ
 faultNumber NoFault = 0
+faultNumber NotAgreed = 1
 faultNumber UnknownCode = 2
 faultNumber OffScreen = 3
 faultNumber TooManyParameters = 9

@@ -16,6 +16,7 @@ use Rattle.pad.specs.Message.{idleMessage}
 use Rattle.screen.specs.declared.cell.Place.{Place}
 use Rattle.screen.specs.Cells.{place, cellOf, onScreen}
 use Rattle.rules.specs.declared.Held.{Held}
+use Rattle.rules.specs.declared.Maps.{Maps}
 use Rattle.rules.specs.declared.Frame.{Frame}
 use Rattle.rules.specs.declared.Reader.{Reader}
 use Rattle.rules.specs.declared.Pad.{Pad}
@@ -63,10 +64,15 @@ sessionOk s =
 abbrev pub noneHeld : Held
 noneHeld = record { bytes = 0 ∷ 0 ∷ 0 ∷ 0 ∷ 0 ∷ 0 ∷ []; count = 0 }
 
--- what an open starts with: cursor (0,0), both options off, protection in effect; nothing half read; parameters at their start, an
--- empty line
+-- request (ii): no facility is asked for
+abbrev pub noMaps : Maps
+noMaps = record { edit = 0; erase = 0; transmit = 0; format0 = 0; format1 = 0 }
+
+-- what an open starts with: cursor (0,0), both options off, protection in effect, nothing agreed; nothing half read; parameters at
+-- their start, an empty line
 abbrev pub freshFrame : ℕ → ℕ → Frame
-freshFrame m n = record { width = m; height = n; cursor = place 0 0; det = false; x3 = false; suppressed = false }
+freshFrame m n =
+    record { width = m; height = n; cursor = place 0 0; det = false; x3 = false; suppressed = false; received = noMaps }
 
 abbrev pub freshReader : Reader
 freshReader = record { phase = Rest; held = noneHeld; cr = false }
@@ -86,17 +92,54 @@ fresh m n = session (freshFrame m n) freshReader freshPad
 -- the frame with the cursor elsewhere
 abbrev pub placed : Frame → Place → Frame
 placed f cursor =
-    record { width = f .width; height = f .height; cursor = cursor; det = f .det; x3 = f .x3; suppressed = f .suppressed }
+    record {
+      width = f .width;
+      height = f .height;
+      cursor = cursor;
+      det = f .det;
+      x3 = f .x3;
+      suppressed = f .suppressed;
+      received = f .received;
+    }
 
 -- DET on or off, protection suppressed or in effect
 abbrev pub switched : Frame → Bool → Bool → Frame
 switched f det suppressed =
-    record { width = f .width; height = f .height; cursor = f .cursor; det = det; x3 = f .x3; suppressed = suppressed }
+    record {
+      width = f .width;
+      height = f .height;
+      cursor = f .cursor;
+      det = det;
+      x3 = f .x3;
+      suppressed = suppressed;
+      received = f .received;
+    }
 
 -- option 30 on or off
 abbrev pub withX3 : Frame → Bool → Frame
 withX3 f x3 =
-    record { width = f .width; height = f .height; cursor = f .cursor; det = f .det; x3 = x3; suppressed = f .suppressed }
+    record {
+      width = f .width;
+      height = f .height;
+      cursor = f .cursor;
+      det = f .det;
+      x3 = x3;
+      suppressed = f .suppressed;
+      received = f .received;
+    }
+
+-- other maps received
+abbrev pub withReceived : Frame → Maps → Frame
+withReceived f received =
+    record {
+      width = f .width;
+      height = f .height;
+      cursor = f .cursor;
+      det = f .det;
+      x3 = f .x3;
+      suppressed = f .suppressed;
+      received = received;
+    }
 
 -- Request (i): the edit line takes the keys while option 30 is on and DET is off.
 abbrev pub lineTakesKeys : Frame → Bool

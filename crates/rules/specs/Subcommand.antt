@@ -1,4 +1,4 @@
--- Document 01, "Subcommands": what each does.
+-- Document 01, "Subcommands", and document 02, request (ii): what each does.
 use mathlib.Core.Bool.{true, false}
 use mathlib.Core.List.{List, [], _∷_}
 use Prim.Native.Nat.{ℕ, zero, suc, _+_}
@@ -42,6 +42,7 @@ use Rattle.rules.specs.declared.Command.the-variants.{
 use Rattle.rules.specs.declared.Fault.{Fault}
 use Rattle.rules.specs.declared.Fault.the-variants.{
   NoFault,
+  NotAgreed,
   UnknownCode,
   OffScreen,
   TooManyParameters,
@@ -49,8 +50,9 @@ use Rattle.rules.specs.declared.Fault.the-variants.{
   BadValue,
   BadMap,
 }
-use Rattle.rules.specs.Session.{View, cursorCell, screenEnd, withCursor, withModes, withAttrs}
-use Rattle.rules.specs.Number.{cursorPosition, dataTransmit, suppressProtection, fieldSeparator, error, ownMap, faultNumber}
+use Rattle.rules.specs.Session.{View, withReceived, cursorCell, screenEnd, withCursor, withModes, withFrame, withAttrs}
+use Rattle.rules.specs.Number.{cursorPosition, dataTransmit, suppressProtection, fieldSeparator, error, faultNumber}
+use Rattle.rules.specs.Facility.{ownMap, receiving}
 use Rattle.rules.specs.Command.{Row, Listed, listed, unlisted, rowOf, codeIn, parameter, placeIn, formatCount, faultOf}
 use Rattle.rules.specs.Effect.{Effect, Part, text, erase, shift, message, changing, saying, quiet}
 use Rattle.rules.specs.Cursor.{cursorGuarded, limited, destination, sentTo}
@@ -147,8 +149,11 @@ suppressing v p =
 
 -- a command that draws no ERROR
 unfoldable pub obeyed : View → Command → Held → Effect
--- 1, 2, 3, 4
-obeyed v (Facilities facility) h = saying v (message (ownMap facility) ∷ [])
+-- 1, 2, 3, 4: the map received is kept, and the terminal's own answered
+obeyed v (Facilities facility) h =
+    let f = v .frame in
+    let received = receiving (f .received) facility (parameter h 0) (parameter h 1) in
+    saying (withFrame v (withReceived f received)) (message (ownMap facility) ∷ [])
 -- 5
 obeyed v MoveCursor h = quiet (withCursor v (limited (v .frame) (placeIn h)))
 -- 8, 9, 10, 11, 12, 19
@@ -183,6 +188,7 @@ judged v r h NoFault =
     let e = obeyed v (r .command) h in
     record { view = e .view; changes = e .changes; reply = e .reply; executed = record { row = r; held = h } ∷ [] }
 judged v r h OffScreen = erring (withCursor v (limited (v .frame) (placeIn h))) (codeIn h) OffScreen
+judged v r h NotAgreed = erring v (codeIn h) NotAgreed
 judged v r h UnknownCode = erring v (codeIn h) UnknownCode
 judged v r h TooManyParameters = erring v (codeIn h) TooManyParameters
 judged v r h TooFewParameters = erring v (codeIn h) TooFewParameters
@@ -191,7 +197,7 @@ judged v r h BadMap = erring v (codeIn h) BadMap
 
 unfoldable pub looked : View → Listed → Held → Effect
 looked v unlisted h = erring v (codeIn h) UnknownCode
-looked v (listed r) h = judged v r h (faultOf v (r .command) (r .parameters) h)
+looked v (listed r) h = judged v r h (faultOf v (r .command) (r .parameters) (r .governor) h)
 
 -- a subnegotiation of option 20 that ended while DET is on, with these bytes held; no command byte: ERROR 10 with command 0
 unfoldable pub subcommand : View → Held → Effect

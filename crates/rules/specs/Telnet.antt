@@ -1,5 +1,5 @@
 -- Document 01, "Telnet bytes" and the last paragraph of "Cells, fields and guards": held bytes, negotiation, host data.
-use mathlib.Core.Bool.{Bool, true, false, _&&_}
+use mathlib.Core.Bool.{Bool, true, false}
 use mathlib.Core.List.{List, [], _∷_, _++_}
 use Prim.Native.Nat.{ℕ, zero, suc, _+_}
 use lib.Dec.{leb, ltb, eqb}
@@ -15,7 +15,19 @@ use Rattle.rules.specs.declared.Frame.{Frame}
 use Rattle.rules.specs.declared.TelnetOption.{TelnetOption}
 use Rattle.rules.specs.declared.TelnetOption.the-variants.{Det, X3, Other}
 use Rattle.rules.specs.declared.Destination.the-variants.{Down, Left, LineStart, NextCell}
-use Rattle.rules.specs.Session.{View, printable, cells, x3Cells, noneHeld, switched, withX3, cursorCell, withFrame}
+use Rattle.rules.specs.Session.{
+  View,
+  printable,
+  cells,
+  x3Cells,
+  noneHeld,
+  noMaps,
+  switched,
+  withX3,
+  withReceived,
+  cursorCell,
+  withFrame,
+}
 use Rattle.rules.specs.Number.{detOption, x3Option}
 use Rattle.rules.specs.Effect.{Effect, Part, put, bytes, changing, saying, quiet}
 use Rattle.rules.specs.Cursor.{cursorGuarded, sentTo}
@@ -68,9 +80,10 @@ accepts f Det = true
 accepts f X3 = leb x3Cells (cells f)
 accepts f Other = false
 
--- switched on or off: with DET off, protection is in effect again; 30 leaves it
+-- switched on or off: with DET off, protection is in effect again and nothing is agreed; 30 leaves both
 unfoldable pub turned : Frame → TelnetOption → Bool → Frame
-turned f Det on = switched f on (on && f .suppressed)
+turned f Det true = switched f true (f .suppressed)
+turned f Det false = withReceived (switched f false false) noMaps
 turned f X3 on = withX3 f on
 turned f Other on = f
 

@@ -13,7 +13,17 @@ pub struct Held {
     pub count: u8,
 }
 
-// What the rules go by: the screen's size, the cursor, which options are on, protection suppressed or in effect.
+// Facility maps, a byte for each class and two for formatting.
+pub struct Maps {
+    pub edit: u8,
+    pub erase: u8,
+    pub transmit: u8,
+    pub format0: u8,
+    pub format1: u8,
+}
+
+// What the rules go by: the screen's size, the cursor, which options are on, protection suppressed or in effect, and the maps received
+// in the latest facility command of each class.
 pub struct Frame {
     pub width: u8,
     pub height: u8,
@@ -21,6 +31,7 @@ pub struct Frame {
     pub det: bool,
     pub x3: bool,
     pub suppressed: bool,
+    pub received: Maps,
 }
 
 // How far the host's bytes are read: where the reader stands, what is held, and whether the last byte of data was a CR.
@@ -129,15 +140,30 @@ pub enum Command {
     Error,
 }
 
-// What the list of subcommands says of a code: what it means, and how many parameters it takes.
+// What governs a subcommand: the bit of this weight in a class's map, or none.
+pub enum Governor {
+    Ungoverned,
+    Edit(u8),
+    Erase(u8),
+    Transmit(u8),
+    Format0(u8),
+    Format1(u8),
+}
+
+// What the list of subcommands says of a code: what it means, how many parameters it takes, and what governs it.
 pub enum Code {
-    Known { command: Command, parameters: u8 },
+    Known {
+        command: Command,
+        parameters: u8,
+        governor: Governor,
+    },
     Unknown,
 }
 
 // The ERROR that a subcommand draws, if any.
 pub enum Fault {
     NoFault,
+    NotAgreed,
     UnknownCode,
     OffScreen,
     TooManyParameters,

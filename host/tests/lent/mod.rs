@@ -1,7 +1,7 @@
 //! All that a call is lent, and calls by both of the crate's doors.
 
 use host::raw;
-use host::terminal::{at, reply_room, Session, SESSION_LENGTH};
+use host::terminal::{at, reply_room, Session, SESSION_LENGTH, SESSION_VERSION};
 
 use Call::{Host, Key};
 
@@ -31,7 +31,7 @@ pub struct Lent {
 /// version, the size and the start of parameters 130 and 131.
 pub fn fresh(width: u8, height: u8) -> Vec<u8> {
     let mut session = vec![0; SESSION_LENGTH];
-    session[..3].copy_from_slice(&[2, width, height]);
+    session[..3].copy_from_slice(&[SESSION_VERSION, width, height]);
     session[at::PARAMETERS + 25..][..2].copy_from_slice(&[19, 17]);
     session
 }

@@ -1,6 +1,7 @@
 //! Counts what a script exercises.
 
 mod classify;
+mod facilities;
 mod line;
 mod message;
 mod pad;
@@ -18,6 +19,7 @@ use crate::size::Size;
 use crate::telnet::Phase;
 use crate::terminal::Outcome;
 use crate::variant::Variant;
+use facilities::FacilityCounts;
 use pad::PadCounts;
 use situation::Situation;
 
@@ -35,6 +37,7 @@ pub struct Cover {
     key_taken: [u64; 256],
     key_refused: [[u64; 256]; REFUSALS],
     pad: PadCounts,
+    facilities: FacilityCounts,
     phases: Vec<(&'static str, u64)>,
     situations: Vec<u64>,
 }
@@ -73,12 +76,16 @@ impl Cover {
             key_taken: [0; 256],
             key_refused: [[0; 256]; REFUSALS],
             pad: PadCounts::new(),
+            facilities: FacilityCounts::new(),
             phases: table::PHASES.map(|name| (name, 0)).to_vec(),
             situations: vec![0; Situation::ALL.len()],
         }
     }
 
     pub fn run(&mut self, replay: &mut Replay, line: &Line) {
+        if matches!(line, Line::Open { .. }) {
+            self.facilities.opened();
+        }
         let Some(outcome) = replay.run(line, self) else {
             return;
         };

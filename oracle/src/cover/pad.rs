@@ -58,17 +58,28 @@ impl Watch for Cover {
             Event::Negotiation(verb, option) => {
                 self.count_if(ends_det(verb, option, sight), S::LineKept);
                 self.negotiation(verb, option, screen, det);
+                self.facility_negotiation(verb, option, sight);
             }
             Event::Subnegotiation(sub) => {
                 self.subnegotiation(sub, det);
                 self.pad_subnegotiation(sub, sight);
+                self.facility_while_off(sub, sight);
             }
             Event::ThrownAway(sub) => self.thrown_away(sub, sight.pad),
-            Event::Executed(code, parameters) => self.executed(code, parameters, screen),
-            Event::Error(code, number) => self.error(code, number),
+            Event::Executed(code, parameters) => {
+                self.executed(code, parameters, screen);
+                self.facility_executed(code, parameters, sight);
+            }
+            Event::Error(code, number, parameters) => {
+                self.error(code, number);
+                self.facility_error(code, number, parameters, sight);
+            }
             Event::Limited(x, y) => self.limited(x, y, screen),
             Event::Key(key) if works(sight) && key <= 127 => self.line_key(key, sight),
-            Event::Key(key) => self.key(key, screen),
+            Event::Key(key) => {
+                self.key(key, screen);
+                self.facility_key(key, sight);
+            }
         }
     }
 }
@@ -98,6 +109,7 @@ impl Cover {
         self.count_if(accepted && sight.det, S::Do30Det);
         self.count_if(ends && !pad.line.is_empty(), S::Dont30Line);
         self.count_if(ends && sight.screen.suppressed, S::Dont30Suppressed);
+        self.count_if(ends && !sight.agreed.nothing(), S::Dont30Agreed);
     }
 
     fn pad_subnegotiation(&mut self, sub: &Sub, sight: Sight) {

@@ -189,4 +189,19 @@ situations! {
     LfObeyed "host's LF after CR obeyed by parameter 13";
     LfWithDet "host's LF after CR with 30 and DET on";
     LfWithout30 "host's LF after CR with both off";
+
+    Error1TooFew "ERROR 1 with too few parameters besides";
+    Error1TooMany "ERROR 1 with too many parameters besides";
+    Error1BadValue "ERROR 1 with a bad value besides";
+    UnknownUnagreed "unknown code while nothing is agreed";
+    DontAgreed "DONT 20 while on with facilities agreed";
+    DontOffAgreed "DONT 20 while off with facilities agreed";
+    DoOnAgreed "DO 20 while on with facilities agreed";
+    DoOffAgreed "DO 20 while off with facilities agreed";
+    WontAgreed "WONT 20 with facilities agreed";
+    Dont30Agreed "DONT 30 with facilities agreed";
+    FacilityOff "facility command while DET is off";
+    SendUnagreed "key 13 without the facility of 21";
+    DeleteUnagreed "key 127 without the facility of 16";
+    FunctionUnagreed "function key without the facility of FN";
 }

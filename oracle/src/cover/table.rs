@@ -6,6 +6,7 @@ use super::pad::STYLES;
 use super::situation::Situation;
 use super::Cover;
 use crate::command::{code, error, parameter_count};
+use crate::facilities::{class, governing};
 use crate::pad::parameters::{admits, NUMBERS};
 use crate::variant::Variant;
 
@@ -43,6 +44,10 @@ fn known_codes() -> impl Iterator<Item = u8> {
     (0..=255).filter(|&code| parameter_count(code).is_some())
 }
 
+fn governed_codes() -> impl Iterator<Item = u8> {
+    known_codes().filter(|&code| governing(code, Variant::None).is_some())
+}
+
 fn meaningless_keys() -> impl Iterator<Item = u8> {
     (0..=255).filter(|key| !matches!(key, 8 | 9 | 13 | 32..=143))
 }
@@ -61,6 +66,7 @@ impl Cover {
         self.refusal_rows(&mut rows);
         self.key_rows(&mut rows);
         self.pad_rows(&mut rows);
+        self.facility_rows(&mut rows);
         for (name, count) in &self.phases {
             rows.row(format!("host call that ended in phase {name}"), *count);
         }
@@ -139,6 +145,33 @@ impl Cover {
         rows.sum("key 127 refused 6", &refused[6], 127..=127);
         rows.sum("key 13 refused 8", &refused[8], 13..=13);
         rows.least("each key 128 to 143 refused 8", &refused[8], 128..=143);
+    }
+
+    fn facility_rows(&self, rows: &mut Rows) {
+        let counts = &self.facilities;
+        for code in governed_codes() {
+            let place = usize::from(code);
+            let errors = self.errors[usize::from(error::NOT_AGREED)][place];
+            rows.row(format!("ERROR 1 by code {code}"), errors);
+            let label = format!("ERROR 1 by code {code} after DONT 20 took its facility");
+            rows.row(label, counts.lost_error[place]);
+            let label = format!("code {code} executed, its bit alone agreed");
+            rows.row(label, counts.alone[place]);
+            let label = format!("ERROR 1 by code {code}, its bit alone missing");
+            rows.row(label, counts.missed[place]);
+        }
+        for code in known_codes().filter(|&code| governing(code, Variant::None).is_none()) {
+            let label = format!("code {code} executed while nothing is agreed");
+            rows.row(label, counts.unagreed[usize::from(code)]);
+        }
+        for code in known_codes().filter(|&code| !class(code).is_empty()) {
+            let place = usize::from(code);
+            rows.row(format!("code {code} received"), self.executed[place]);
+            rows.row(format!("code {code} that narrows"), counts.narrowed[place]);
+            let label = format!("code {code} that narrows and widens a map");
+            rows.row(label, counts.replaced[place]);
+            rows.row(format!("code {code} with an ERROR"), counts.error[place]);
+        }
     }
 
     fn pad_rows(&self, rows: &mut Rows) {

@@ -31,7 +31,7 @@ pub fn subnegotiation(bytes: &mut Vec<u8>, option: u8, inside: &[u8]) {
 impl Generator {
     /// One thing that a host might send.
     pub fn atom(&mut self, bytes: &mut Vec<u8>) {
-        const WEIGHTS: [usize; 13] = [40, 14, 10, 6, 7, 3, 14, 5, 2, 1, 6, 4, 4];
+        const WEIGHTS: [usize; 15] = [40, 14, 10, 6, 7, 3, 14, 5, 2, 1, 6, 4, 4, 5, 2];
         match self.rng.weighted(&WEIGHTS) {
             0 => self.command(bytes),
             1 => self.move_cursor(bytes),
@@ -45,7 +45,9 @@ impl Generator {
             9 => self.noise(bytes),
             10 => self.format(bytes),
             11 => self.thrown_away(bytes),
-            _ => self.suppress(bytes),
+            12 => self.suppress(bytes),
+            13 => self.narrow(bytes),
+            _ => self.start_again(bytes),
         }
     }
 
@@ -72,6 +74,10 @@ impl Generator {
     /// A known command with the right number of parameters.
     pub fn command(&mut self, bytes: &mut Vec<u8>) {
         let code = self.known_code();
+        self.right_parameters(bytes, code);
+    }
+
+    pub fn right_parameters(&mut self, bytes: &mut Vec<u8>, code: u8) {
         let inside = self.inside(code);
         subnegotiation(bytes, DET, &inside);
     }
@@ -175,6 +181,7 @@ impl Generator {
         if verb == Verb::Dont && option == DET && !self.rng.once_in(4) {
             self.command(bytes);
             bytes.extend([IAC, Verb::Do.byte(), DET]);
+            self.mostly_agree(bytes);
         }
     }
 
@@ -187,12 +194,16 @@ impl Generator {
     }
 
     /// A code of any kind with a number of parameters of any kind.
-    fn wrong_command(&mut self, bytes: &mut Vec<u8>) {
+    pub fn wrong_command(&mut self, bytes: &mut Vec<u8>) {
         let code = match self.rng.below(6) {
             0 | 1 => self.known_code(),
             2 => self.rng.pick(&[5, 36, 36, 37, 38, 41, 255]),
             _ => self.codes.next(),
         };
+        self.wrong_parameters(bytes, code);
+    }
+
+    pub fn wrong_parameters(&mut self, bytes: &mut Vec<u8>, code: u8) {
         let mut inside = self.inside(code);
         match self.rng.weighted(&[4, 6, 6, 4, 2, 1, 2]) {
             0 => inside.truncate(1),

@@ -2,6 +2,7 @@
 //! reached; the rest seek out the refusals.
 
 mod bytes;
+mod facilities;
 mod keys;
 mod opening;
 mod pad;
@@ -12,6 +13,7 @@ use crate::pad::parameters::Parameters;
 use crate::rng::Rng;
 use crate::script::Line;
 use crate::size::Size;
+use crate::telnet::IAC;
 
 /// About that many calls, the same for the same seed.
 pub fn script(seed: u64, calls: usize) -> Vec<Line> {
@@ -37,6 +39,11 @@ struct Generator {
     keys: Sweep,
     line_keys: Sweep,
     codes: Sweep,
+}
+
+/// Roughly how many short replies those bytes draw.
+fn replies(bytes: &[u8]) -> usize {
+    bytes.iter().filter(|&&byte| byte == IAC).count() / 2
 }
 
 /// Passes through all 256 values in a scattered order.
@@ -91,7 +98,10 @@ impl Generator {
     }
 
     fn step(&mut self) {
-        match self.rng.weighted(&[60, 22, 5, 4, 2, 5, 3, 2, 4, 3, 2, 1]) {
+        match self
+            .rng
+            .weighted(&[60, 22, 5, 4, 2, 5, 3, 2, 4, 3, 2, 2, 1])
+        {
             0 => self.stream(),
             1 => self.key_burst(),
             2 => self.push(Line::State),
@@ -103,6 +113,7 @@ impl Generator {
             8 => self.spoil(),
             9 => self.half_read(),
             10 => self.paint(),
+            11 => self.agree(),
             _ => self.empty_call(),
         }
     }
@@ -115,7 +126,8 @@ impl Generator {
             self.atom(&mut bytes);
         }
         let cuts = self.rng.pick(&[0, 0, 0, 1, 1, 2, 3]);
-        self.send_cut(bytes, cuts, atoms);
+        let replies = replies(&bytes).max(atoms);
+        self.send_cut(bytes, cuts, replies);
     }
 
     fn send_cut(&mut self, mut bytes: Vec<u8>, cuts: usize, replies: usize) {

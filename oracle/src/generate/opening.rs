@@ -4,7 +4,6 @@ use super::Generator;
 use crate::pad::parameters::Parameters;
 use crate::script::Line;
 use crate::size::Size;
-use crate::telnet::{Verb, IAC};
 
 /// Sizes past their range by one or by much.
 const BAD_SIZES: [(u16, u16); 10] = [
@@ -124,12 +123,15 @@ impl Generator {
         }
     }
 
-    /// DET on, as a rule, and a form on the screen.
+    /// DET on, as a rule, facilities agreed, and a form on the screen.
     pub fn set_up(&mut self) {
         match self.rng.below(8) {
             0 => {}
-            1 => self.push(Line::Det(true)),
-            _ => self.send(vec![IAC, Verb::Do.byte(), 20], 1),
+            1 => {
+                self.push(Line::Det(true));
+                self.agree();
+            }
+            _ => self.begin_det(),
         }
         match self.rng.below(5) {
             0 => {}

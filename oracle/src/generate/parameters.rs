@@ -2,11 +2,15 @@
 
 use super::Generator;
 use crate::command::{code, parameter_count};
+use crate::facilities::class;
 
 impl Generator {
     /// As many as the code takes; a few where it is unknown.
     pub fn parameters(&mut self, code: u8) -> Vec<u8> {
         match code {
+            code::EDIT_FACILITIES..=code::FORMAT_FACILITIES => {
+                class(code).map(|place| self.map(place)).collect()
+            }
             code::MOVE_CURSOR => self.position_parameters(),
             code::FORMAT_DATA => self.format_parameters(),
             code::REPEAT => self.repeat_parameters(),

@@ -1,7 +1,9 @@
 //! Lines that overwrite the session and the buffers, soundly or not.
 
 use super::Generator;
+use crate::reply::DET;
 use crate::script::Line;
+use crate::telnet::{Verb, IAC, SE};
 
 /// Few values, some with bits that FORMAT DATA never sets.
 const RAW_PALETTE: [u8; 10] = [0, 8, 8, 16, 24, 24, 0x20, 0x28, 0xe8, 0xf7];
@@ -56,13 +58,26 @@ impl Generator {
             self.press(key);
         }
         let mut bytes = Vec::new();
-        self.command(&mut bytes);
-        self.negotiation(&mut bytes);
+        match self.rng.below(3) {
+            0 => {
+                let code = self.any_class();
+                self.right_parameters(&mut bytes, code);
+            }
+            _ => self.command(&mut bytes),
+        }
         if self.rng.once_in(2) {
-            bytes.extend([255, 254, 20]);
+            self.negotiation(&mut bytes);
+        }
+        match self.rng.below(4) {
+            0 | 1 => bytes.extend([IAC, Verb::Dont.byte(), DET]),
+            2 => bytes.extend([IAC, Verb::Do.byte(), DET]),
+            _ => {}
         }
         self.send(bytes, 2);
         self.push(Line::Det(true));
+        if self.rng.once_in(2) {
+            self.agree();
+        }
     }
 
     /// A subnegotiation left open while its count is overwritten.
@@ -76,8 +91,8 @@ impl Generator {
         }
         let mut rest = Vec::new();
         match self.rng.below(3) {
-            0 => rest.extend([255, 240]),
-            1 => rest.extend([self.edge_byte(), 255, 240]),
+            0 => rest.extend([IAC, SE]),
+            1 => rest.extend([self.edge_byte(), IAC, SE]),
             _ => self.atom(&mut rest),
         }
         self.send(rest, 1);

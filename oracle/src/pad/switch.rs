@@ -33,6 +33,7 @@ impl Desk<'_> {
         }
         match self.variant {
             Variant::Dont30SendsLine => self.send_line(),
+            Variant::Dont30EmptiesMaps => self.agreed = Default::default(),
             Variant::Dont30EndsSuppression => self.screen.suppressed = false,
             Variant::Dont30StartsAfresh => self.pad.parameters = Default::default(),
             _ => {}

@@ -31,13 +31,22 @@ impl Bench {
         bench
     }
 
-    /// A screen of that text and those attributes, DET on.
+    /// A screen of that text and those attributes, DET on, all facilities
+    /// agreed.
     pub fn with(m: u16, n: u16, text: &[u8], attrs: &[u8]) -> Bench {
         let mut bench = Bench::open(m, n);
         bench.chars.copy_from_slice(text);
         bench.attrs.copy_from_slice(attrs);
         bench.terminal.session.det = true;
+        bench.agree_all();
         bench
+    }
+
+    /// The host asks for all facilities.
+    pub fn agree_all(&mut self) {
+        for ask in [&[1, 255][..], &[2, 255], &[3, 255], &[4, 255, 255]] {
+            self.command(ask);
+        }
     }
 
     /// Form F with the cursor at (x, y).
@@ -128,6 +137,10 @@ impl Bench {
 
     pub fn parameter(&self, number: u8) -> u8 {
         self.terminal.session.pad.parameters.get(number)
+    }
+
+    pub fn agreed(&self) -> [u8; 5] {
+        self.terminal.session.agreed.0
     }
 
     pub fn cursor(&self) -> (u8, u8) {

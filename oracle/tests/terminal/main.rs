@@ -1,6 +1,7 @@
 //! The terminal's rules, call by call.
 
 mod bench;
+mod facilities;
 mod pad_echo;
 mod pad_line;
 mod pad_messages;

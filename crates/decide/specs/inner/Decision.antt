@@ -5,6 +5,7 @@ use Prim.Native.Nat.{ℕ}
 use Rattle.rules.specs.declared.Frame.{Frame}
 use Rattle.rules.specs.declared.Held.{Held}
 use Rattle.rules.specs.declared.Command.{Command}
+use Rattle.rules.specs.declared.Governor.{Governor}
 use Rattle.rules.specs.Session.{View}
 use Rattle.rules.specs.Command.{Row, faultOf}
 use Rattle.rules.specs.Effect.{Change, put, erase, shift, changing}
@@ -31,7 +32,8 @@ changesOf (Repeat n c) = []
 abbrev pub Once : Edit → Type 0
 Once edit = (v : View) → edited v edit ≡ changing v (changesOf edit)
 
--- what a command comes to whose row in the list has this meaning and so many parameters
-abbrev pub Judges : View → Decision → Command → ℕ → Held → Type 0
-Judges v d c n h =
-    (r : Row) → r .command ≡ c → r .parameters ≡ n → Decides v d (λ v. judged v r h (faultOf v (r .command) (r .parameters) h))
+-- what a command comes to whose row in the list has this meaning, so many parameters and this governor
+abbrev pub Judges : View → Decision → Command → ℕ → Governor → Held → Type 0
+Judges v d c n g h =
+    (r : Row) → r .command ≡ c → r .parameters ≡ n → r .governor ≡ g
+    → Decides v d (λ v. judged v r h (faultOf v (r .command) (r .parameters) (r .governor) h))

@@ -10,11 +10,13 @@ elsewhere c = sym (stored-elsewhere _ _ (c .if1 .taken))
 
 written : tie.Need-returns-2
 written c =
-    let p = c .before .before in
-    let r = p .before .before .before .before .before in
-    let f = r .before .before .before .before .before in
-    let t = f .before .before .before in
+    let m = c .before .before in
+    let p = m .before .before .before .before in
+    let r = p .before .before .before .before in
+    let f = r .before .before .before .before in
+    let t = f .before .before in
     session-stored (t .before .before .args .session) (t .if1 .left) (f .put-frame .ensures) (r .put-reader .ensures) (p .put-pad .ensures)
+    (m .put-maps .ensures)
 
 pub encode-spec : {M : Type 1} → statement M
-encode-spec = tie.close (tie.spec elsewhere (search needs) (search needs) (search needs) (search needs) written)
+encode-spec = tie.close (tie.spec elsewhere (search needs) (search needs) (search needs) (search needs) (search needs) written)

@@ -17,7 +17,7 @@ use Rattle.screen.specs.Scans.{nextOpen}
 use Rattle.edit.specs.Edits.{deleted, inserted, shifted, onPart, erased, formatted}
 use Rattle.screen.specs.Classes.{takes}
 use Rattle.rules.specs.Session.{allPrintable, padOk, sessionOk}
-use Rattle.rules.specs.Number.{ownMap}
+use Rattle.rules.specs.Facility.{weight, ownMap, receiving, agreed}
 use Rattle.rules.specs.Refusal.{verdict, sizeTests, stateTests}
 use Rattle.rules.specs.Command.{rows, rowIn, meaning, reaches, valueFault, faultOf}
 use Rattle.rules.specs.Effect.{changed, changedAll, spelled, spelledAll}
@@ -47,8 +47,9 @@ use Rattle.rules.specs.Call.{called, answersOf, stateAfter, executedBy, 
 unfoldable pub computing : ℕ
 unfolding bit parameters lines messages responses keys echoes printsLf reader doubled subnegotiation negotiation firstOf lastOf tabulate
     protectedAt startsAt opensAt fieldStart fieldEnd spanEnd
-    nextOpen deleted inserted shifted onPart erased formatted takes allPrintable padOk sessionOk ownMap verdict sizeTests stateTests rows
-    rowIn meaning reaches valueFault faultOf changed changedAll spelled spelledAll nextCell homeCell backTabCell firstFieldCell
+    nextOpen deleted inserted shifted onPart erased formatted takes allPrintable padOk sessionOk weight ownMap receiving
+    agreed verdict sizeTests stateTests rows rowIn
+    meaning reaches valueFault faultOf changed changedAll spelled spelledAll nextCell homeCell backTabCell firstFieldCell
     nextFieldCell previousOpenCell destination holding heldAfter crAfter optionOf isOn accepts turned switchedOn switchedOff
     negotiated hostCharacter hostCharacters
     hostData hostText empties padAfter response lineTests padTyped typedTo passes fieldTexts

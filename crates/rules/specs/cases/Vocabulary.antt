@@ -17,11 +17,11 @@ use Rattle.pad.specs.declared.message.Stage.the-variants.{Code, Parameter, Valu
 use Rattle.screen.specs.Cells.{place}
 use Rattle.rules.specs.declared.Reader.{Reader}
 use Rattle.rules.specs.declared.Frame.{Frame}
+use Rattle.rules.specs.declared.Maps.{Maps}
 use Rattle.rules.specs.declared.Pad.{Pad}
-use Rattle.rules.specs.declared.Refusal.{Refusal}
-use Rattle.rules.specs.Session.{Screen, State, cells, freshFrame, fresh, freshPad, session, screen, state}
-use Rattle.rules.specs.Refusal.{numberOf, isTaken, verdict, sizeTests}
-use Rattle.rules.specs.Operation.{Ran, Outcome, running, takenOf, hostRefusal, keyRefusal, keyRan, blank, opened}
+use Rattle.rules.specs.Session.{Screen, State, noMaps, freshPad, session, placed, switched, withX3, withReceived, screen, state}
+use Rattle.rules.specs.Refusal.{numberOf}
+use Rattle.rules.specs.Operation.{Outcome, opened}
 use Rattle.rules.specs.Call.{Call, host, key, called, left}
 
 -- the characters of a text
@@ -63,9 +63,8 @@ pub record Brief : Type 0 where
 abbrev pub brief : ℕ → ℕ → State → List ℕ → Brief
 brief refusal taken s replies = record { refusal = refusal; taken = taken; left = s; replies = replies }
 
--- a call that is refused, or else done
-abbrev pub briefly : Refusal → State → ℕ → Ran → Brief
-briefly r s taken ran = if isTaken r then brief 0 taken (ran .state) (ran .replies) else brief (numberOf r) 0 s []
+abbrev pub tell : Outcome → Brief
+tell o = brief (numberOf (o .answer .refusal)) (o .answer .taken) (left o) (take (o .answer .written) (o .reply))
 
 -- in full, with a reply buffer of so many bytes: behind the bytes replied it is as it was lent
 abbrev pub inFull : ℕ → Brief → Seen
@@ -104,18 +103,10 @@ unfoldable pub observedIn : State → List Trial → List Seen
 observedIn s [] = []
 observedIn s (t ∷ ts) = let o = called s (callWith (t .given) (t .room)) in look o ∷ observedIn (left o) ts
 
--- what is told
-unfoldable pub tell : State → Given → ℕ → Brief
-tell s (heard input) room =
-    let taken = takenOf s room input in
-    briefly (hostRefusal s (replicate room lent)) s taken (running s (take taken input))
-tell s (struck k) room = briefly (keyRefusal s (replicate room lent) k) s 1 (keyRan s k)
-
+-- what is told, and what is stated
 unfoldable pub toldIn : State → List Trial → List Brief
 toldIn s [] = []
-toldIn s (t ∷ ts) = let b = tell s (t .given) (t .room) in b ∷ toldIn (b .left) ts
-
--- what is stated
+toldIn s (t ∷ ts) = let o = called s (callWith (t .given) (t .room)) in tell o ∷ toldIn (left o) ts
 
 unfoldable pub statedIn : State → List Trial → List Brief
 statedIn s [] = []
@@ -127,13 +118,6 @@ fullIn (t ∷ ts) [] = []
 fullIn (t ∷ ts) (b ∷ bs) = inFull (t .room) b ∷ fullIn ts bs
 
 -- ---- cases
-
--- what is told of an open
-abbrev pub openTold : ℕ → ℕ → Screen → Brief
-openTold m n b =
-    let f = freshFrame m n in
-    let done : Ran = record { state = state (fresh m n) (blank (cells f)); replies = []; executed = [] } in
-    briefly (verdict (sizeTests f b)) (state (fresh 0 0) b) 0 done
 
 pub data Case : Type 0 where
   case : String → State → List Trial → Case  -- the title, the start, the calls
@@ -149,7 +133,7 @@ observedOf (opening title m n b refusal s) = look (opened m n b) ∷ []
 
 abbrev pub told : Case → List Brief
 told (case title s ts) = toldIn s ts
-told (opening title m n b refusal s) = openTold m n b ∷ []
+told (opening title m n b refusal s) = tell (opened m n b) ∷ []
 
 abbrev pub stated : Case → List Brief
 stated (case title s ts) = statedIn s ts
@@ -184,9 +168,11 @@ phaseNumbers (InsideIac option) = 6 ∷ option ∷ []
 unfoldable pub numbers : Brief → List ℕ
 numbers b =
     let f = b .left .session .frame in
+    let m = f .received in
     let r = b .left .session .reader in
     b .refusal ∷ b .taken ∷ f .width ∷ f .height ∷ f .cursor .x .0 ∷ f .cursor .y .0
-    ∷ flag (f .det) ∷ flag (f .x3) ∷ flag (f .suppressed) ∷ flag (r .cr) ∷ b .left .session .pad .line .len ∷ r .held .count
+    ∷ flag (f .det) ∷ flag (f .x3) ∷ flag (f .suppressed) ∷ m .edit ∷ m .erase ∷ m .transmit ∷ m .format0 ∷ m .format1
+    ∷ flag (r .cr) ∷ b .left .session .pad .line .len ∷ r .held .count
     ∷ phaseNumbers (r .phase)
 
 unfoldable pub stageNumbers : Stage → List ℕ
@@ -262,33 +248,44 @@ Everywhere w = (n : ℕ) → n < 256 → w .seen n ≡ inFull (w .room) (w .show
 
 -- ---- states
 
-abbrev framed : ℕ → ℕ → ℕ → ℕ → Bool → Bool → Bool → Frame
-framed m n x y det x3 suppressed = record { width = m; height = n; cursor = place x y; det = det; x3 = x3; suppressed = suppressed }
+-- facility maps; all facilities agreed, whatever the terminal's own maps are (document 02, request (ii))
+abbrev pub maps : ℕ → ℕ → ℕ → ℕ → ℕ → Maps
+maps edit erase transmit format0 format1 =
+    record { edit = edit; erase = erase; transmit = transmit; format0 = format0; format1 = format1 }
+
+abbrev pub allMaps : Maps
+allMaps = maps 255 255 255 255 255
 
 -- where the reader stands, and the bytes held
 abbrev reader : Phase → List ℕ → Bool → Reader
 reader phase held cr =
     record { phase = phase; held = record { bytes = held ++ replicate (6 - length held) 0; count = length held }; cr = cr }
 
--- a start with DET on
+-- a start with DET on and all facilities agreed
 abbrev pub starting : ℕ → ℕ → Bool → List ℕ → List ℕ → ℕ → ℕ → State
 starting m n suppressed chars attrs x y =
-    state (session (framed m n x y true false suppressed) (reader Rest [] false) freshPad) (screen chars attrs)
+    let f : Frame =
+    record { width = m; height = n; cursor = place x y; det = true; x3 = false; suppressed = suppressed; received = allMaps } in
+    state (session f (reader Rest [] false) freshPad) (screen chars attrs)
 
--- a state with one thing else, and all other things as they were: the cursor, the modes, the reader with the bytes held, whether the
--- last byte of data was a CR, option 30 on, the PAD, the characters, the attribute bytes
+-- a state with another frame
+abbrev framed : Frame → State → State
+framed f s = state (session f (s .session .reader) (s .session .pad)) (s .screen)
+
+-- a state with one thing else, and all other things as they were: the cursor, the modes, the maps received, the reader with the bytes
+-- held, whether the last byte of data was a CR, option 30 on, the PAD, the characters, the attribute bytes
 abbrev pub at : ℕ → ℕ → State → State
-at x y s =
-    let f = s .session .frame in
-    state (session (framed (f .width) (f .height) x y (f .det) (f .x3) (f .suppressed)) (s .session .reader) (s .session .pad)) (s .screen)
+at x y s = framed (placed (s .session .frame) (place x y)) s
 
 abbrev pub modes : Bool → Bool → State → State
-modes det suppressed s =
-    let f = s .session .frame in
-    state
-    (session (framed (f .width) (f .height) (f .cursor .x .0) (f .cursor .y .0) det (f .x3) suppressed)
-    (s .session .reader) (s .session .pad))
-    (s .screen)
+modes det suppressed s = framed (switched (s .session .frame) det suppressed) s
+
+abbrev pub asking : Maps → State → State
+asking m s = framed (withReceived (s .session .frame) m) s
+
+-- after DONT 20: DET off, protection in effect, nothing agreed
+abbrev pub detOff : State → State
+detOff s = asking noMaps (modes false false s)
 
 abbrev pub reading : Phase → List ℕ → State → State
 reading phase held s = state (session (s .session .frame) (reader phase held (s .session .reader .cr)) (s .session .pad)) (s .screen)
@@ -299,12 +296,7 @@ afterCr cr s =
     state (session (s .session .frame) (record { phase = r .phase; held = r .held; cr = cr }) (s .session .pad)) (s .screen)
 
 abbrev pub x3Switched : Bool → State → State
-x3Switched x3 s =
-    let f = s .session .frame in
-    state
-    (session (framed (f .width) (f .height) (f .cursor .x .0) (f .cursor .y .0) (f .det) x3 (f .suppressed))
-    (s .session .reader) (s .session .pad))
-    (s .screen)
+x3Switched x3 s = framed (withX3 (s .session .frame) x3) s
 
 abbrev pub padded : Pad → State → State
 padded p s = state (session (s .session .frame) (s .session .reader) p) (s .screen)
@@ -336,5 +328,5 @@ refusedTrial number room given = record { given = given; room = room; refusal = 
 
 -- names what a proof about cases computes with, beside the rules
 unfoldable pub seeing : ℕ
-unfolding characters tell toldIn statedIn phaseNumbers numbers stageNumbers same samePad sameBeside sameBrief sameAll failures
+unfolding characters toldIn statedIn phaseNumbers numbers stageNumbers same samePad sameBeside sameBrief sameAll failures
 seeing = 0

@@ -33,6 +33,9 @@ pub fn tell(teller: &mut Teller) -> Done {
 impl Dosing<'_> {
     fn paint(&mut self) -> Done {
         self.say("1. The host paints the form and protects all of it but what is in brackets.")?;
+        self.desk.host(&form::negotiate())?;
+        let agreed = format!("{:x?}", self.desk.session.agreed_maps());
+        expect("agreed", &*agreed, "[36, 1f, 3f, 90, 79]")?;
         self.desk.host(&form::paint())?;
         self.teller.screen(&self.desk)?;
         self.painted = self.desk.protected();

@@ -44,15 +44,24 @@ pub const FIELDS: [(Run, u8); 4] = [
     (run("given by", 11, 5, 16), ALPHABETIC),
 ];
 
+/// What the host can do: the four commands that say so, each with its map.
+const FACILITIES: [&[u8]; 4] = [&[1, 0x7e], &[2, 0x1f], &[3, 0x3f], &[4, 0x90, 0x79]];
+
 const MOVE_CURSOR: u8 = 5;
 const HOME: u8 = 12;
 const FORMAT_DATA: u8 = 36;
 
-/// Turns option 20 on, writes the text, protects every cell, opens the fields
-/// and puts the cursor in the first.
-pub fn paint() -> Vec<u8> {
+/// Turns option 20 on and sends the host's facility maps.
+pub fn negotiate() -> Vec<u8> {
     let mut bytes = turn_on(DET);
-    bytes.extend(TEXT.into_iter().flatten());
+    bytes.extend(FACILITIES.into_iter().flat_map(subcommand));
+    bytes
+}
+
+/// Writes the text, protects every cell, opens the fields and puts the cursor
+/// in the first.
+pub fn paint() -> Vec<u8> {
+    let mut bytes: Vec<u8> = TEXT.into_iter().flatten().copied().collect();
     bytes.extend(move_cursor(0, 0));
     bytes.extend(format_data(PROTECTED, (WIDTH * HEIGHT) as u16));
     for (field, attribute) in FIELDS {

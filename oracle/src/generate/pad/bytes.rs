@@ -181,6 +181,9 @@ impl Generator {
     /// DET on and soon off again.
     fn switch_det(&mut self, bytes: &mut Vec<u8>) {
         bytes.extend(DO_20);
+        if self.rng.once_in(3) {
+            self.mostly_agree(bytes);
+        }
         match self.rng.below(4) {
             0 => self.lines_of_text(bytes),
             1 => self.set(bytes),

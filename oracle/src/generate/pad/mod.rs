@@ -144,7 +144,7 @@ impl Generator {
         self.typing();
         match self.rng.once_in(3) {
             true => self.push(Line::Det(true)),
-            false => self.send(DO_20.to_vec(), 8),
+            false => self.begin_det(),
         }
         for _ in 0..self.rng.within(1, 3) {
             match self.rng.below(3) {

@@ -2,12 +2,13 @@
 use mathlib.Core.Path.{_∙_}
 use borrow.Author.Needs.{needs}
 use borrow.Author.Tests.{ne-eqb}
+use Rattle.rules.specs.Facility.{weight}
 use Rattle.rules.specs.Command.{rows, rowIn, meaning}
 use Rattle.command.proofs.code.command_of.Statement.{statement}
 use Rattle.command.proofs.code.command_of.Tie as tie
 
 pub command-of-spec : {M : Type 1} → statement M
-unfolding rows rowIn meaning
+unfolding weight rows rowIn meaning
 command-of-spec =
     tie.close
     (tie.spec

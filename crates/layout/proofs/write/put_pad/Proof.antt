@@ -13,8 +13,8 @@ room c κs = omega (arith, long (c .before .before .before .before))
 stored : tie.Need-returns
 stored c =
     let m = c .before .before in
-    let l = m .before .before .before .before .before in
-    let v = l .before .before .before .before .before in
+    let l = m .before .before .before .before in
+    let v = l .before .before .before .before in
     let s = v .before .before .before .before .before in
     let values : Emitted (s .args .bytes .now) 18 (s .args .pad .values .held) (v .copy .last .1 .0) 46 =
     record { next = rw (long s); stored = v .copy .ensures } in

@@ -48,8 +48,7 @@ put-text-spec =
     let pre = t .before .before .before .before .before .before .pre in
     let e = m .moved .ensures in (
       step-copied (i .0) (pre .2) (i .1) (t .loop-test .taken) (pre .1) (rw e at (o .open-run .ensures))
-          (d .before .before .before .if1 .left) (rw e at (d .before .cursor-cell .ensures)) (d .copy-text .ensures)
-          (rw e at (c .gone-right .ensures)),
+          (d .before .before .before .if1 .left) (rw e at (d .before .cursor-cell .ensures)) (d .copy-text .ensures) (rw e at (c .gone-right .ensures)),
       omega (arith, i .1),
       omega (arith, t .loop-test .taken, o .open-run .ensures .few),
       search needs,

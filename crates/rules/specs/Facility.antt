@@ -1,0 +1,107 @@
+-- Document 01, "Subcommands", 1 to 4, and document 02, request (ii): facilities, by section 4 of source documents 003 and 000. What a
+-- bit of a map stands for, the maps that the terminal sends, and what is agreed.
+use mathlib.Core.Bool.{Bool, true, _&&_}
+use mathlib.Core.List.{List, [], _∷_}
+use Prim.Native.Nat.{ℕ, zero, suc, _*_}
+use Rattle.words.specs.Words.{bit}
+use Rattle.rules.specs.declared.Facility.{Facility}
+use Rattle.rules.specs.declared.Facility.the-variants.{Editing, Erasing, Transmitting, Formatting}
+use Rattle.rules.specs.declared.Governor.{Governor}
+use Rattle.rules.specs.declared.Governor.the-variants.{Ungoverned, Edit, Erase, Transmit, Format0, Format1}
+use Rattle.rules.specs.declared.Maps.{Maps}
+
+-- ---- the bits that govern a command. The others govern none that the terminal receives.
+
+-- a bit's weight: bits are numbered from the right, from 0
+unfoldable pub weight : ℕ → ℕ
+weight zero = 1
+weight (suc n) = 2 * weight n
+
+-- class 1, editing
+abbrev pub incrementalAddressing : Governor
+incrementalAddressing = Edit (weight 5)
+
+abbrev pub readCursorAddress : Governor
+readCursorAddress = Edit (weight 4)
+
+abbrev pub charInsertDelete : Governor
+charInsertDelete = Edit (weight 2)
+
+abbrev pub backTab : Governor
+backTab = Edit (weight 1)
+
+-- class 2, erasing: the field has bit 4, the line bit 3
+abbrev pub eraseField : Governor
+eraseField = Erase (weight 4)
+
+abbrev pub eraseLine : Governor
+eraseLine = Erase (weight 3)
+
+abbrev pub eraseRestOfScreen : Governor
+eraseRestOfScreen = Erase (weight 2)
+
+abbrev pub eraseRestOfLine : Governor
+eraseRestOfLine = Erase (weight 1)
+
+abbrev pub eraseRestOfField : Governor
+eraseRestOfField = Erase (weight 0)
+
+-- class 3, transmitting: the line has bit 4, the field bit 3
+abbrev pub transmitLine : Governor
+transmitLine = Transmit (weight 4)
+
+abbrev pub transmitField : Governor
+transmitField = Transmit (weight 3)
+
+abbrev pub transmitRestOfScreen : Governor
+transmitRestOfScreen = Transmit (weight 2)
+
+abbrev pub transmitRestOfLine : Governor
+transmitRestOfLine = Transmit (weight 1)
+
+abbrev pub transmitRestOfField : Governor
+transmitRestOfField = Transmit (weight 0)
+
+-- class 4, formatting: its first byte, then its second
+abbrev pub repeating : Governor
+repeating = Format0 (weight 4)
+
+abbrev pub protectionOnOff : Governor
+protectionOnOff = Format1 (weight 6)
+
+-- protection brings TRANSMIT UNPROTECTED and ERASE UNPROTECTED with it
+abbrev pub protection : Governor
+protection = Format1 (weight 5)
+
+-- ---- what is agreed
+
+-- The terminal's own maps. The erase map has the bits of the five partial erasures, 0 to 4 in source document 000.
+abbrev pub ownMaps : Maps
+ownMaps = record { edit = 54; erase = 31; transmit = 63; format0 = 144; format1 = 121 }
+
+-- 1 to 4 are answered with their own code and the terminal's own map
+unfoldable pub ownMap : Facility → List ℕ
+ownMap Editing = 1 ∷ ownMaps .edit ∷ []
+ownMap Erasing = 2 ∷ ownMaps .erase ∷ []
+ownMap Transmitting = 3 ∷ ownMaps .transmit ∷ []
+ownMap Formatting = 4 ∷ ownMaps .format0 ∷ ownMaps .format1 ∷ []
+
+-- the latest map of a class counts, whatever came before: its first byte, and for formatting a second one
+unfoldable pub receiving : Maps → Facility → ℕ → ℕ → Maps
+receiving m Editing a b = record { edit = a; erase = m .erase; transmit = m .transmit; format0 = m .format0; format1 = m .format1 }
+receiving m Erasing a b = record { edit = m .edit; erase = a; transmit = m .transmit; format0 = m .format0; format1 = m .format1 }
+receiving m Transmitting a b = record { edit = m .edit; erase = m .erase; transmit = a; format0 = m .format0; format1 = m .format1 }
+receiving m Formatting a b = record { edit = m .edit; erase = m .erase; transmit = m .transmit; format0 = a; format1 = b }
+
+-- the intersection: a bit that is set in the map received and in the terminal's own
+abbrev pub inBoth : ℕ → ℕ → ℕ → Bool
+inBoth w received own = bit w received && bit w own
+
+-- a command that no bit governs needs none
+unfoldable pub agreed : Maps → Governor → Bool
+agreed m Ungoverned = true
+agreed m (Edit w) = inBoth w (m .edit) (ownMaps .edit)
+agreed m (Erase w) = inBoth w (m .erase) (ownMaps .erase)
+agreed m (Transmit w) = inBoth w (m .transmit) (ownMaps .transmit)
+agreed m (Format0 w) = inBoth w (m .format0) (ownMaps .format0)
+agreed m (Format1 w) = inBoth w (m .format1) (ownMaps .format1)

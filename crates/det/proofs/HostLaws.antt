@@ -217,10 +217,9 @@ module _ {f : Frame} {r : Reader} {lf : Bool} {b b₁ : Screen} {input : List �
   stretch-onward = quiet (freshWith lf) (fresh-prints lf) .onward
 
   -- alone
-  pub stretch-turns : Turns f r lf b input from reply at
-      (record { frame = t .frame; reader = t .reader; event = Nothing; end = t .end; written = at }) b₁ reply
+  pub stretch-turns : Turns f r lf b input from reply at t b₁ reply
   unfolding padAfter
-  stretch-turns p prints a = taking-run (state (session f r p) b) reply at a (quiet p prints)
+  stretch-turns p prints a = rw (q p prints .nothing, q p prints .same) (taking-run (state (session f r p) b) reply at a (quiet p prints))
 
   -- and more
   pub then-turns : (u : Turn) {b₂ : Screen} {reply′ : List ℕ} → Turns (t .frame) (t .reader) lf b₁ input (t .end) reply at u b₂ reply′

@@ -64,6 +64,7 @@ fn take_all(
     let mut pad = session.pad;
     let mut taken = 0;
     let mut written = 0;
+    let mut lf = prints_lf(session.pad.values);
     while taken < input.len() {
         if reply.len() - written < room {
             break;
@@ -76,11 +77,10 @@ fn take_all(
             let one = take_byte(frame, reader, pad, byte, reply, written);
             reader = one.reader;
             pad = one.pad;
+            lf = prints_lf(pad.values);
             written = one.written;
             continue;
         }
-        let values = pad.values;
-        let lf = prints_lf(values);
         let turn = take_turn(
             frame,
             reader,
@@ -92,17 +92,18 @@ fn take_all(
             reply,
             written,
         );
+        taken = turn.end;
+        written = turn.written;
+        reader = turn.reader;
         let event = turn.event;
         let other = ends_other(event);
         if other {
             pad.message = idle();
         } else {
             pad = pad_told(frame, pad, event);
+            lf = prints_lf(pad.values);
         }
         frame = turn.frame;
-        reader = turn.reader;
-        taken = turn.end;
-        written = turn.written;
     }
     Answer {
         session: Session {

@@ -295,17 +295,11 @@ pub(crate) fn take_turn(
         (now (reply .entry)) at r (lent (chars .exit) (attrs .exit)) (now (reply .exit)) ⌝ }
 {
     let stretch = take_stretch(frame, reader, lf, input, from, chars, attrs, at);
-    let after = stretch.frame;
-    let stands = stretch.reader;
     let next = stretch.end;
     if input.len() <= next {
-        return Turn {
-            frame: after,
-            reader: stands,
-            event: Event::Nothing,
-            end: next,
-            written: at,
-        };
+        return stretch;
     }
+    let after = stretch.frame;
+    let stands = stretch.reader;
     take_told(after, stands, lf, input, next, chars, attrs, reply, at)
 }

@@ -10,11 +10,11 @@ take-turn-spec =
     tie.close
     (tie.spec
     (λ c κs. search needs) (λ c. search needs) (λ c. search needs)
-    (λ c. let s = c .before .before .before .before .before in
+    (λ c. let s = c .before .before .before in
     let start = s .before .before .before .before .before .before .before in
     (omega (arith, start .pre .1 .1, c .if1 .taken), stretch-turns _ (s .take-stretch .ensures)))
-    (λ c κs. let i = c .before .before .before in
-    let s = i .before .before .before .before .before in
+    (λ c κs. let i = c .before .before .before .before .before in
+    let s = i .before .before .before in
     let start = s .before .before .before .before .before .before .before in
     let q = s .take-stretch .ensures in
     (stretch-accepts (start .args .reply .now) q (start .pre .0), (stretch-outside (start .args .reply .now) q, omega (arith, i .if1 .left))))

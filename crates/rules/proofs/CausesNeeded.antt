@@ -5,14 +5,14 @@ use mathlib.Core.List.{List, [], _∷_, _++_}
 use Prim.Native.Nat.{ℕ}
 use Prim.Native.String.{String}
 use lib.Dec.{leb, eqb, leb·zero}
-use lib.ListN.{replicate}
+use lib.ListN.{replicate, set}
 use Rattle.telnet.specs.Writer.{subnegotiation}
 use Rattle.words.specs.Words.{if_then_else_}
 use Rattle.words.proofs.Laws.{true-or-false, not-both, and-right}
 use Rattle.screen.specs.Cells.{cellOf}
 use Rattle.pad.specs.Parameters.{startValues}
 use Rattle.pad.specs.Line.{lineOf}
-use Rattle.pad.specs.Message.{withPairs, idleMessage}
+use Rattle.pad.specs.Message.{idleMessage}
 use Rattle.rules.specs.Session.{State, padWith}
 use Rattle.rules.specs.Refusal.{verdict}
 use Rattle.rules.specs.Operation.{running, pressTests, keyRan}
@@ -77,7 +77,7 @@ failing code = host (subnegotiation 20 (code ∷ 9 ∷ 9 ∷ []))
 abbrev wide : Bool → ℕ → State
 wide on k =
     padded
-    (padWith (withPairs startValues (2 ∷ 1 ∷ 15 ∷ 1 ∷ 16 ∷ k ∷ 19 ∷ 42 ∷ [])) (lineOf (word.characters "ab")) idleMessage)
+    (padWith (record { held = set (set (set (set (startValues .held) 2 1) 15 1) 16 k) 19 42 }) (lineOf (word.characters "ab")) idleMessage)
     (x3Switched on (modes false false (starting 37 1 false (replicate 37 97) (replicate 37 0) 1 0)))
 
 -- a call with the least reply room, 261, changes it
@@ -150,7 +150,7 @@ line-takes line k e = and-right (leb 0 k) _ e
 
 wide-ready : (k : ℕ) → leb k 127 ≡ true → ready (wide true k) (replicate 261 lent) ≡ true
 unfolding computing seeing ready passing
-wide-ready k h = rw (leb·zero k, h) (rw (leb·zero k, h))
+wide-ready k h = rw (leb·zero k, h)
 
 by-typed : (a : Aspect)
     → failures (λ k. not (changers a .typed k) || differs a (wide true k) (pressedTo (wide true k) k)) 256 ≡ []

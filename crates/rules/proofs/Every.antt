@@ -1,5 +1,5 @@
 -- Sentences of document 01 that range over all codes, keys, options or bytes: each once, over all of them.
-use mathlib.Core.Path.{_≡_, refl, _∙_}
+use mathlib.Core.Path.{_≡_, refl, ap, _∙_}
 use mathlib.Core.Bool.{Bool, true, false}
 use mathlib.Core.List.{List, [], _∷_, _++_}
 use Prim.Native.Nat.{ℕ, _-_, _<_, min, _*_}
@@ -20,21 +20,45 @@ use Rattle.rules.specs.declared.Maps.{Maps}
 use Rattle.rules.specs.declared.Governor.the-variants.{Ungoverned}
 use Rattle.rules.specs.declared.Refusal.the-variants.{Taken}
 use Rattle.rules.specs.declared.Facility.the-variants.{Editing, Erasing, Transmitting, Formatting}
-use Rattle.rules.specs.declared.Command.the-variants.{Facilities, MoveCursor, FormatData, Repeat, SuppressProtection, Error}
+use Rattle.rules.specs.declared.Command.the-variants.{Facilities, Error}
 use Rattle.rules.specs.declared.Fault.the-variants.{TooFewParameters}
 use Rattle.rules.specs.Session.{View, State, viewOf, noMaps, switched, withX3, withReceived, freshPad, screen, withModes, withFrame}
 use Rattle.rules.specs.Refusal.{numberOf, verdict}
 use Rattle.rules.specs.Effect.{Effect, bytes, saying, quiet}
-use Rattle.rules.specs.Facility.{repeating, protectionOnOff}
-use Rattle.rules.specs.Command.{Row, row, never, always, onlyWith, Listed, listed, unlisted, rowOf, codeIn, faultOf}
+use Rattle.rules.specs.Command.{Row, row, never, Listed, listed, unlisted, rowOf, codeIn, faultOf}
 use Rattle.rules.specs.Telnet.{optionOf, isOn, accepts, turned, switchedOn, switchedOff, negotiated}
 use Rattle.rules.specs.Subcommand.{obeyed, erring, judged, looked, subcommand}
 use Rattle.rules.specs.Pad.{padAfter}
-use Rattle.rules.specs.Operation.{Ran, applied, happening, readerAfter, hostByte, running, pressTests, keyRan, opened}
+use Rattle.rules.specs.Operation.{applied, happening, readerAfter, hostByte, running, pressTests, keyRan, opened}
 use Rattle.rules.specs.Call.{host, key, called}
 use Rattle.rules.specs.Executed.{oneOf}
 use Rattle.rules.specs.cases.Computing.{computing}
-use Rattle.rules.specs.cases.Vocabulary.{look, lent, Brief, brief, same, sameBeside, failures, Sweep, sweep, ifNone, Everywhere, characters, starting, at, modes, maps, reading, afterCr, showing, attributed, unchanged, seeing}
+use Rattle.rules.specs.cases.Vocabulary.{
+  look,
+  lent,
+  Brief,
+  brief,
+  inFull,
+  same,
+  sameBeside,
+  failures,
+  Sweep,
+  sweep,
+  ifNone,
+  Everywhere,
+  EachEverywhere,
+  characters,
+  starting,
+  at,
+  modes,
+  maps,
+  reading,
+  afterCr,
+  showing,
+  attributed,
+  unchanged,
+  seeing,
+}
 use Rattle.rules.proofs.Passing.{same-equal, below-passes, briefly, everywhere}
 use Rattle.rules.proofs.Ready.{passing, ready, key-full, byte-full, pad-kept}
 -- the worked cases are checked first
@@ -110,11 +134,17 @@ key-swept title on r p =
       beside = p;
     })
 
-pub every-key-on : Everywhere (keySweep "every key, DET on" true)
+abbrev keysOn : Sweep
+keysOn = keySweep "every key, DET on" true
+
+every-key-on : Everywhere keysOn
 unfolding computing seeing ready passing keyDoes
 every-key-on = key-swept "every key, DET on" true refl tt
 
-pub every-key-off : Everywhere (keySweep "every key, DET off" false)
+abbrev keysOff : Sweep
+keysOff = keySweep "every key, DET off" false
+
+every-key-off : Everywhere keysOff
 unfolding computing seeing ready passing keyDoes
 every-key-off = key-swept "every key, DET off" false refl tt
 
@@ -153,13 +183,19 @@ data-swept : (title : String) (on : Bool) → ready (resting on) (replicate 44 l
 data-swept title on r p =
     everywhere (record { full = λ b. byte-full (resting on) 44 r b; pad = λ b h. data-pad on b; beside = p })
 
-pub every-byte-on : Everywhere (dataSweep "every byte of host data, DET on" true)
-unfolding computing seeing ready passing dataDoes
-every-byte-on = data-swept "every byte of host data, DET on" true refl tt
+abbrev dataOn : Sweep
+dataOn = dataSweep "every byte of host data, DET on" true
 
-pub every-byte-off : Everywhere (dataSweep "every byte of host data, DET off" false)
+every-data-on : Everywhere dataOn
 unfolding computing seeing ready passing dataDoes
-every-byte-off = data-swept "every byte of host data, DET off" false refl tt
+every-data-on = data-swept "every byte of host data, DET on" true refl tt
+
+abbrev dataOff : Sweep
+dataOff = dataSweep "every byte of host data, DET off" false
+
+every-data-off : Everywhere dataOff
+unfolding computing seeing ready passing dataDoes
+every-data-off = data-swept "every byte of host data, DET off" false refl tt
 
 -- ---- every value of a parameter
 
@@ -170,49 +206,54 @@ small = starting 2 1 false (characters "ab") (replicate 2 0) 0 0
 abbrev holding : List ℕ → State
 holding held = reading (InsideIac 20) held small
 
--- a sentence over such commands: the row of their code, the bytes held, what is to be seen
+-- a sentence over such commands: their code, the bytes held, what is to be seen
 pub record Ending : Type 0 where
   pub title : String
-  pub row : Row
+  pub code : ℕ
   pub held : ℕ → List ℕ
   pub shows : ℕ → Brief
 
-abbrev ending : String → Row → (ℕ → List ℕ) → (ℕ → Brief) → Ending
-ending title row held shows = record { title = title; row = row; held = held; shows = shows }
+-- the code, and the parameters behind it
+abbrev ending : String → ℕ → (ℕ → List ℕ) → (ℕ → Brief) → Ending
+ending title code parameters shows = record { title = title; code = code; held = λ n. code ∷ parameters n; shows = shows }
 
 abbrev endSweep : Ending → Sweep
 endSweep e = sweep (e .title) 16 (λ n. look (called (holding (e .held n)) (host (240 ∷ []) (replicate 16 lent)))) (λ n. freshPad) (e .shows)
 
--- the same with the row already found
-abbrev endRan : Row → State → Ran
-endRan row s =
+-- the row of a code is found once
+abbrev rowIs : Listed → Row
+rowIs (listed r) = r
+rowIs unlisted = row 0 Error 0 Ungoverned never
+
+abbrev endTold : Row → State → Brief
+endTold r s =
     let v = viewOf s in
-    let r = s .session .reader in
-    let h = r .held in
-    let effect = if eqb (h .count) 0 then erring v 0 TooFewParameters else judged v row h (faultOf v (row .command) (row .parameters) (row .governor) h) in
-    let one = applied s (readerAfter r 240) (padAfter (s .session .frame) (s .session .pad) (End 20)) effect in
-    record { state = one .state; replies = one .replies ++ []; executed = one .executed ++ [] }
+    let h = s .session .reader .held in
+    let effect = if eqb (h .count) 0 then erring v 0 TooFewParameters else judged v r h (faultOf v (r .command) (r .parameters) (r .governor) h) in
+    let one = applied s (readerAfter (s .session .reader) 240) (padAfter (s .session .frame) (s .session .pad) (End 20)) effect in
+    brief 0 1 (one .state) (one .replies ++ [])
 
-end-ran : (row : Row) (held : List ℕ) → rowOf (codeIn ((holding held) .session .reader .held)) ≡ listed row
-    → running (holding held) (240 ∷ []) ≡ endRan row (holding held)
+end-told : (r : Row) (held : List ℕ) → rowOf (codeIn ((holding held) .session .reader .held)) ≡ listed r
+    → byteTold (holding held) 240 ≡ endTold r (holding held)
 unfolding running hostByte happening reader subcommand looked
-end-ran row held e = rw e
+end-told r held e = rw e
 
-abbrev endTold : Ending → ℕ → Brief
-endTold e n = briefly Taken (holding (e .held n)) 1 (endRan (e .row) (holding (e .held n)))
-
--- no byte held hinders the call, and the code is the row's
+-- no byte held hinders the call, and the code is in the list
 pub record Ended (e : Ending) (n : ℕ) : Type 0 where
-  pub ready : ready (holding (e .held n)) (replicate 16 lent) ≡ true
-  pub found : rowOf (codeIn ((holding (e .held n)) .session .reader .held)) ≡ listed (e .row)
+  pub passes : ready (holding (e .held n)) (replicate 16 lent) ≡ true
+  pub found : rowOf (codeIn ((holding (e .held n)) .session .reader .held)) ≡ listed (rowIs (rowOf (e .code)))
 
-end-swept : (e : Ending) → ((n : ℕ) → Ended e n) → ifNone (failures (λ n. sameBeside (endTold e n) ((endSweep e) .shows n)) 256) (e .title)
-    → Everywhere (endSweep e)
+abbrev endTest : Ending → ℕ → Bool
+endTest e = let r = rowIs (rowOf (e .code)) in λ n. sameBeside (endTold r (holding (e .held n))) ((endSweep e) .shows n)
+
+end-swept : (e : Ending) → ((n : ℕ) → Ended e n) → ifNone (failures (endTest e) 256) (e .title) → Everywhere (endSweep e)
 unfolding padAfter
 end-swept e d p =
     everywhere
     (record {
-      full = λ n. byte-full (holding (e .held n)) 16 (d n .ready) 240 ∙ rw (end-ran (e .row) (e .held n) (d n .found));
+      full = λ n.
+          byte-full (holding (e .held n)) 16 (d n .passes) 240
+          ∙ ap (inFull 16) (end-told (rowIs (rowOf (e .code))) (e .held n) (d n .found));
       pad = λ n h. refl;
       beside = p;
     })
@@ -226,52 +267,86 @@ errs code number = does unchanged (det (41 ∷ code ∷ number ∷ []))
 
 abbrev x : Ending
 x =
-    ending "5 with every x" (row 5 MoveCursor 2 Ungoverned never) (λ n. 5 ∷ n ∷ 0 ∷ [])
+    ending "5 with every x" 5 (λ n. n ∷ 0 ∷ [])
     (λ n. does (at (min n 1) 0) (if leb n 1 then [] else det (41 ∷ 5 ∷ 3 ∷ [])))
 
-pub every-x : Everywhere (endSweep x)
+every-x : Everywhere (endSweep x)
 unfolding computing seeing ready passing
-every-x = end-swept x (λ n. record { ready = refl; found = refl }) tt
+every-x = end-swept x (λ n. record { passes = refl; found = refl }) tt
 
 abbrev firstMap : Ending
 firstMap =
-    ending "36 with every first map byte" (row 36 FormatData 4 Ungoverned always) (λ n. 36 ∷ n ∷ 0 ∷ 0 ∷ 2 ∷ [])
+    ending "36 with every first map byte" 36 (λ n. n ∷ 0 ∷ 0 ∷ 2 ∷ [])
     (λ n. if leb n 31 then does (attributed (n ∷ n ∷ [])) [] else errs 36 12)
 
-pub every-first-map : Everywhere (endSweep firstMap)
+every-first-map : Everywhere (endSweep firstMap)
 unfolding computing seeing ready passing
-every-first-map = end-swept firstMap (λ n. record { ready = refl; found = refl }) tt
+every-first-map = end-swept firstMap (λ n. record { passes = refl; found = refl }) tt
 
 abbrev secondMap : Ending
 secondMap =
-    ending "36 with every second map byte" (row 36 FormatData 4 Ungoverned always) (λ n. 36 ∷ 9 ∷ n ∷ 0 ∷ 1 ∷ [])
+    ending "36 with every second map byte" 36 (λ n. 9 ∷ n ∷ 0 ∷ 1 ∷ [])
     (λ n. if eqb n 0 then does (attributed (9 ∷ 0 ∷ [])) [] else errs 36 12)
 
-pub every-second-map : Everywhere (endSweep secondMap)
+every-second-map : Everywhere (endSweep secondMap)
 unfolding computing seeing ready passing
-every-second-map = end-swept secondMap (λ n. record { ready = refl; found = refl }) tt
+every-second-map = end-swept secondMap (λ n. record { passes = refl; found = refl }) tt
 
 abbrev character : Ending
 character =
-    ending "37 with every character" (row 37 Repeat 2 repeating never) (λ n. 37 ∷ 1 ∷ n ∷ [])
+    ending "37 with every character" 37 (λ n. 1 ∷ n ∷ [])
     (λ n. if between 32 126 n then does (λ s. at 1 0 (showing (n ∷ characters "b") s)) [] else errs 37 11)
 
-pub every-character : Everywhere (endSweep character)
+every-character : Everywhere (endSweep character)
 unfolding computing seeing ready passing
-every-character = end-swept character (λ n. record { ready = refl; found = refl }) tt
+every-character = end-swept character (λ n. record { passes = refl; found = refl }) tt
 
 abbrev value : Ending
 value =
-    ending "38 with every value" (row 38 SuppressProtection 1 protectionOnOff (onlyWith 253)) (λ n. 38 ∷ n ∷ [])
+    ending "38 with every value" 38 (λ n. n ∷ [])
     (λ n.
     if eqb n 253 then does (modes true true) (det (38 ∷ 251 ∷ []))
     else if eqb n 251 then does unchanged (det (38 ∷ 254 ∷ []))
     else if between 252 254 n then does unchanged []
     else errs 38 11)
 
-pub every-value : Everywhere (endSweep value)
+every-value : Everywhere (endSweep value)
 unfolding computing seeing ready passing
-every-value = end-swept value (λ n. record { ready = refl; found = refl }) tt
+every-value = end-swept value (λ n. record { passes = refl; found = refl }) tt
+
+-- ---- all of these: each a law of its own, since the checker keeps all that a law computes until the law ends
+
+unfoldable pub sweeps : List Sweep
+sweeps =
+    keysOn ∷ keysOff ∷ dataOn ∷ dataOff ∷ endSweep x ∷ endSweep firstMap ∷ endSweep secondMap ∷ endSweep character ∷ endSweep value ∷ []
+
+pub every-byte : EachEverywhere sweeps
+unfolding sweeps
+every-byte = (
+  every-key-on,
+  (
+    every-key-off,
+    (
+      every-data-on,
+      (
+        every-data-off,
+        (
+          every-x,
+          (
+            every-first-map,
+            (
+              every-second-map,
+              (
+                every-character,
+                (every-value, tt),
+              ),
+            ),
+          ),
+        ),
+      ),
+    ),
+  ),
+)
 
 -- ---- whatever the parameters
 

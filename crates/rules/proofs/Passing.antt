@@ -242,6 +242,10 @@ drop-lent zero n = rw (sub-zero n)
 drop-lent (suc i) zero = rw (zero-sub (suc i))
 drop-lent (suc i) (suc n) = drop-lent i n ∙ rw (suc-sub-suc n i)
 
+-- a call that is done counts as written the bytes that it replies
+written-is : (taken : ℕ) (ran : Ran) (reply : List ℕ) → (answering taken ran reply) .answer .written ≡ length (ran .replies)
+written-is taken ran reply = refl
+
 -- a call that is refused, or else done
 abbrev pub briefly : Refusal → State → ℕ → Ran → Brief
 briefly r s taken ran = if isTaken r then brief 0 taken (ran .state) (ran .replies) else brief (numberOf r) 0 s []
@@ -273,7 +277,7 @@ open-tell : (m n : ℕ) (b : Screen) → let o = opened m n b in look o ≡ inFu
 unfolding opened
 open-tell m n b =
     let done : Ran = record { state = state (fresh m n) (blank (cells (freshFrame m n))); replies = []; executed = [] } in
-    ends-tell (verdict (sizeTests (freshFrame m n) b)) (state (fresh 0 0) b) 0 0 done
+    ends-tell (verdict (sizeTests (freshFrame m n) b)) (state (fresh 0 0) b) 0 _ done
 
 trials-tell : (s : State) (ts : List Trial) → observedIn s ts ≡ fullIn ts (toldIn s ts)
 unfolding observedIn toldIn fullIn

@@ -24,7 +24,42 @@ use Rattle.rules.specs.Pad.{lineTests, padTyped}
 use Rattle.rules.specs.Operation.{pressTests, keyRan}
 use Rattle.rules.specs.Call.{key, called}
 use Rattle.rules.specs.cases.Computing.{computing}
-use Rattle.rules.specs.cases.Vocabulary.{look, lent, Brief, brief, Case, Trial, Passes, Sweep, sweep, Everywhere, same, failures, characters, case, starting, at, modes, detOff, reading, afterCr, x3Switched, padded, showing, unchanged, hostTrial, keyTrial, refusedTrial, heard, struck, observed, expected, seeing}
+use Rattle.rules.specs.cases.Vocabulary.{
+  look,
+  lent,
+  Brief,
+  brief,
+  Case,
+  Trial,
+  Passes,
+  Sweep,
+  sweep,
+  ifNone,
+  Everywhere,
+  same,
+  sameBeside,
+  failures,
+  characters,
+  case,
+  starting,
+  at,
+  modes,
+  detOff,
+  reading,
+  afterCr,
+  x3Switched,
+  padded,
+  showing,
+  unchanged,
+  hostTrial,
+  keyTrial,
+  refusedTrial,
+  heard,
+  struck,
+  observed,
+  expected,
+  seeing,
+}
 use Rattle.rules.proofs.Passing.{each-equal, all-pass, same-equal, below-passes, briefly, Swept, everywhere}
 use Rattle.rules.proofs.Ready.{passing, ready, key-full, pad-kept}
 -- the cases of document 01 are checked first
@@ -44,14 +79,15 @@ half pairs text message = padWith (withPairs startValues pairs) (lineOf text) me
 abbrev row : ℕ → Bool → Pad → State
 row m on p = padded p (x3Switched on (modes false false (starting m 1 false (replicate m 32) (replicate m 0) 0 0)))
 
--- 40 by 2, blank, nothing protected, DET off and 30 on; the reply room is 562
+-- 20 by 2, blank, nothing protected, DET off and 30 on; the least reply room is 282
 abbrev ward : List ℕ → List ℕ → State
-ward pairs text = padded (holding pairs text) (x3Switched true (modes false false (starting 40 2 false (replicate 80 32) (replicate 80 0) 0 0)))
+ward pairs text =
+    padded (holding pairs text) (x3Switched true (modes false false (starting 20 2 false (replicate 40 32) (replicate 40 0) 0 0)))
 
 -- afterwards: the cursor, the screen's text, the pairs set and the line
 abbrev shows : ℕ → ℕ → String → List ℕ → List ℕ → State → State
 shows x y text pairs line s =
-    padded (holding pairs line) (at x y (showing (characters text ++ replicate (80 - length (characters text)) 32) s))
+    padded (holding pairs line) (at x y (showing (characters text ++ replicate (40 - length (characters text)) 32) s))
 
 -- ---- calls
 
@@ -64,13 +100,13 @@ x3 payload = subnegotiation 30 payload
 
 -- host bytes, all of them taken
 abbrev bytes : List ℕ → (State → State) → List ℕ → Trial
-bytes input leaves replies = hostTrial 562 input (length input) leaves replies
+bytes input leaves replies = hostTrial 282 input (length input) leaves replies
 
 abbrev short : ℕ → List ℕ → (State → State) → List ℕ → Trial
 short room input leaves replies = hostTrial room input (length input) leaves replies
 
 abbrev types : ℕ → (State → State) → List ℕ → Trial
-types k leaves replies = keyTrial 562 k leaves replies
+types k leaves replies = keyTrial 282 k leaves replies
 
 -- ---- option 30
 
@@ -161,7 +197,7 @@ typing =
     ∷ case "an echo's LF after a CR is obeyed" (afterCr true (ward (2 ∷ 1 ∷ []) []))
     (types 10 (shows 0 1 "" (2 ∷ 1 ∷ []) (10 ∷ [])) [] ∷ [])
     ∷ case "a full line: 10 for a plain key, none for an edit key" (ward (15 ∷ 1 ∷ 16 ∷ 127 ∷ []) (replicate 128 65))
-    (refusedTrial 10 562 (struck 65) ∷ types 127 (padded (holding (15 ∷ 1 ∷ 16 ∷ 127 ∷ []) (replicate 127 65))) []
+    (refusedTrial 10 282 (struck 65) ∷ types 127 (padded (holding (15 ∷ 1 ∷ 16 ∷ 127 ∷ []) (replicate 127 65))) []
     ∷ types 65 (padded (holding (15 ∷ 1 ∷ 16 ∷ 127 ∷ []) (replicate 128 65))) [] ∷ [])
     ∷ case "a full line goes out with its forwarding key" (ward (3 ∷ 8 ∷ []) (replicate 128 65))
     (types 127 (padded (holding (3 ∷ 8 ∷ []) [])) (replicate 128 65 ++ (127 ∷ [])) ∷ [])
@@ -170,7 +206,7 @@ typing =
     (keyTrial 282 65 (λ s. padded (holding (2 ∷ 1 ∷ []) (65 ∷ [])) (at 1 0 (showing (65 ∷ replicate 39 32) s))) []
     ∷ keyTrial 282 66 (padded (holding (2 ∷ 1 ∷ []) (65 ∷ 66 ∷ []))) [] ∷ [])
     ∷ case "DET on: the line is kept, keys are document 01's" (ward (3 ∷ 2 ∷ []) (97 ∷ []))
-    (bytes (verb 253 20) (modes true false) (verb 251 20) ∷ types 98 (λ s. at 1 0 (showing (98 ∷ replicate 79 32) s)) []
+    (bytes (verb 253 20) (modes true false) (verb 251 20) ∷ types 98 (λ s. at 1 0 (showing (98 ∷ replicate 39 32) s)) []
     ∷ types 127 unchanged [] ∷ bytes (verb 254 20) detOff (verb 252 20)
     ∷ types 13 (padded (holding (3 ∷ 2 ∷ []) [])) (97 ∷ 13 ∷ 0 ∷ []) ∷ [])
     ∷ case "output is not discarded, whatever parameter 8" (ward (8 ∷ 1 ∷ []) []) (bytes (characters "x") (shows 1 0 "x" (8 ∷ 1 ∷ []) []) [] ∷ [])
@@ -205,7 +241,7 @@ lines-pass = (tt, (tt, (tt, (tt, (tt, (tt, (tt, tt)))))))
 
 -- each is refused 4, by host bytes and by a key
 abbrev refused : String → State → Case
-refused title s = case title s (refusedTrial 4 562 (heard (65 ∷ [])) ∷ refusedTrial 4 562 (struck 65) ∷ [])
+refused title s = case title s (refusedTrial 4 282 (heard (65 ∷ [])) ∷ refusedTrial 4 282 (struck 65) ∷ [])
 
 abbrev forged : Pad → State
 forged p = padded p (ward [] [])
@@ -245,6 +281,10 @@ lineSweep =
 abbrev lineTold : ℕ → Brief
 lineTold k = briefly (verdict (pressTests taking k)) taking 1 (keyRan taking k)
 
+line-beside : ifNone (failures (λ k. sameBeside (lineTold k) (lineSweep .shows k)) 256) (lineSweep .title)
+unfolding computing seeing lineDoes lineLeaves
+line-beside = tt
+
 -- a key that the line takes is not refused, and stands in it alone
 abbrev alone : ℕ → Bool
 alone k =
@@ -266,12 +306,12 @@ line-pad k e =
     (λ t. pad-kept (verdict (pressTests taking k)) taking 1 (keyRan taking k) (rw t) ∙ rw t)
 
 line-swept : Swept lineSweep lineTold
-unfolding computing seeing ready passing lineDoes lineLeaves
+unfolding computing seeing ready passing
 line-swept =
     record {
       full = λ k. key-full taking 261 refl k;
       pad = λ k h. line-pad k (below-passes (λ k. not (ltb k 128) || alone k) 256 line-alone k h);
-      beside = tt;
+      beside = line-beside;
     }
 
 pub every-line-key : Everywhere lineSweep

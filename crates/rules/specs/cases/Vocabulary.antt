@@ -246,6 +246,10 @@ ifNone (n ∷ ns) title = Fails title
 abbrev pub Everywhere : Sweep → Type 0
 Everywhere w = (n : ℕ) → n < 256 → w .seen n ≡ inFull (w .room) (w .shows n)
 
+abbrev pub EachEverywhere : List Sweep → Type 0
+EachEverywhere [] = Unit {0}
+EachEverywhere (w ∷ ws) = Everywhere w × EachEverywhere ws
+
 -- ---- states
 
 -- facility maps; all facilities agreed, whatever the terminal's own maps are (document 02, request (ii))

@@ -1,5 +1,5 @@
--- Document 01, "Subcommands", 1 to 4, and document 02, request (ii): facilities, by section 4 of source documents 003 and 000. What a
--- bit of a map stands for, the maps that the terminal sends, and what is agreed.
+-- Document 01, "Subcommands", 1 to 4, and document 02, request (ii): facilities. What a bit of a map stands for, by "Facility Functions"
+-- in section 2 of source documents 003 and 000; the maps that the terminal sends; and what is agreed, by section 5 of 000.
 use mathlib.Core.Bool.{Bool, true, _&&_}
 use mathlib.Core.List.{List, [], _∷_}
 use Prim.Native.Nat.{ℕ, zero, suc, _*_}

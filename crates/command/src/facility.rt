@@ -3,45 +3,49 @@ ghost use mathlib.Core.Path.{_≡_};
 ghost use mathlib.Core.Bool.{_&&_};
 ghost use Rattle.words.specs.Words.{bit};
 ghost use Rattle.rules.specs.Session.{noMaps};
-ghost use Rattle.rules.specs.Facility.{ownMaps, receiving, agreed};
+ghost use Rattle.rules.specs.Facility.{receiving, agreed};
 use rules::Facility;
 use rules::Governor;
 use rules::Maps;
 use words::bit;
 
-pub(crate) const INCREMENTAL_ADDRESSING: Governor = Governor::Edit(32);
+// By the weight of its bit: of the edit map,
+pub(crate) const INCREMENTAL_ADDRESSING: Governor = Governor::EditBit(32);
 
-pub(crate) const READ_CURSOR_ADDRESS: Governor = Governor::Edit(16);
+pub(crate) const READ_CURSOR_ADDRESS: Governor = Governor::EditBit(16);
 
-pub(crate) const CHAR_INSERT_DELETE: Governor = Governor::Edit(4);
+pub(crate) const CHAR_INSERT_DELETE: Governor = Governor::EditBit(4);
 
-pub(crate) const BACK_TAB: Governor = Governor::Edit(2);
+pub(crate) const BACK_TAB: Governor = Governor::EditBit(2);
 
-pub(crate) const ERASE_FIELD: Governor = Governor::Erase(16);
+// of the erase map,
+pub(crate) const ERASE_FIELD: Governor = Governor::EraseBit(16);
 
-pub(crate) const ERASE_LINE: Governor = Governor::Erase(8);
+pub(crate) const ERASE_LINE: Governor = Governor::EraseBit(8);
 
-pub(crate) const ERASE_REST_OF_SCREEN: Governor = Governor::Erase(4);
+pub(crate) const ERASE_REST_OF_SCREEN: Governor = Governor::EraseBit(4);
 
-pub(crate) const ERASE_REST_OF_LINE: Governor = Governor::Erase(2);
+pub(crate) const ERASE_REST_OF_LINE: Governor = Governor::EraseBit(2);
 
-pub(crate) const ERASE_REST_OF_FIELD: Governor = Governor::Erase(1);
+pub(crate) const ERASE_REST_OF_FIELD: Governor = Governor::EraseBit(1);
 
-pub(crate) const TRANSMIT_LINE: Governor = Governor::Transmit(16);
+// of the transmit map,
+pub(crate) const TRANSMIT_LINE: Governor = Governor::TransmitBit(16);
 
-pub(crate) const TRANSMIT_FIELD: Governor = Governor::Transmit(8);
+pub(crate) const TRANSMIT_FIELD: Governor = Governor::TransmitBit(8);
 
-pub(crate) const TRANSMIT_REST_OF_SCREEN: Governor = Governor::Transmit(4);
+pub(crate) const TRANSMIT_REST_OF_SCREEN: Governor = Governor::TransmitBit(4);
 
-pub(crate) const TRANSMIT_REST_OF_LINE: Governor = Governor::Transmit(2);
+pub(crate) const TRANSMIT_REST_OF_LINE: Governor = Governor::TransmitBit(2);
 
-pub(crate) const TRANSMIT_REST_OF_FIELD: Governor = Governor::Transmit(1);
+pub(crate) const TRANSMIT_REST_OF_FIELD: Governor = Governor::TransmitBit(1);
 
-pub(crate) const REPEATING: Governor = Governor::Format0(16);
+// of the two bytes of the format map.
+pub(crate) const REPEATING: Governor = Governor::Format0Bit(16);
 
-pub(crate) const PROTECTION_ON_OFF: Governor = Governor::Format1(64);
+pub(crate) const PROTECTION_ON_OFF: Governor = Governor::Format1Bit(64);
 
-pub(crate) const PROTECTION: Governor = Governor::Format1(32);
+pub(crate) const PROTECTION: Governor = Governor::Format1Bit(32);
 
 // The terminal's own maps.
 pub const OWN: Maps = Maps {
@@ -65,7 +69,7 @@ pub fn no_maps() -> Maps
 }
 
 // The maps after a facility command: those of its class are the ones received last.
-pub fn received(maps: Maps, facility: Facility, first: u8, second: u8) -> Maps
+pub fn receive(maps: Maps, facility: Facility, first: u8, second: u8) -> Maps
     ensures { λ r. ⌜ r ≡ receiving maps facility first second ⌝ }
 {
     let mut next = maps;
@@ -100,10 +104,10 @@ pub fn is_agreed(maps: Maps, governor: Governor) -> bool
 {
     match governor {
         Governor::Ungoverned => true,
-        Governor::Edit(weight) => in_both(weight, maps.edit, OWN.edit),
-        Governor::Erase(weight) => in_both(weight, maps.erase, OWN.erase),
-        Governor::Transmit(weight) => in_both(weight, maps.transmit, OWN.transmit),
-        Governor::Format0(weight) => in_both(weight, maps.format0, OWN.format0),
-        Governor::Format1(weight) => in_both(weight, maps.format1, OWN.format1),
+        Governor::EditBit(weight) => in_both(weight, maps.edit, OWN.edit),
+        Governor::EraseBit(weight) => in_both(weight, maps.erase, OWN.erase),
+        Governor::TransmitBit(weight) => in_both(weight, maps.transmit, OWN.transmit),
+        Governor::Format0Bit(weight) => in_both(weight, maps.format0, OWN.format0),
+        Governor::Format1Bit(weight) => in_both(weight, maps.format1, OWN.format1),
     }
 }

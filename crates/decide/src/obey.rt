@@ -25,7 +25,7 @@ use crate::decision::saying;
 use crate::transmit::transmit;
 use command::code::command_of;
 use command::facility::OWN;
-use command::facility::received;
+use command::facility::receive;
 use command::fault::fault_of;
 use command::fault::format_end;
 use command::frame::cursor_cell;
@@ -85,7 +85,7 @@ fn own_map(facility: Facility) -> Say
 fn facilities(frame: Frame, facility: Facility, held: Held) -> Decision
     ensures { λ r. ⌜ ((attrs : List ℕ) → Decides (view frame attrs) r (λ v. obeyed v (Command.Facilities facility) held)) ⌝ }
 {
-    let maps = received(
+    let maps = receive(
         frame.received,
         facility,
         first_parameter(held),

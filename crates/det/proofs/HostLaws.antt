@@ -36,7 +36,7 @@ use Rattle.det.specs.declared.take.Turn.{Turn}
 use Rattle.words.specs.Stored.{Emitted}
 use Rattle.det.specs.inner.Data.{detEffect}
 use Rattle.det.specs.inner.Apply.{Applies, Answerable}
-use Rattle.det.specs.inner.Take.{Accepts, freshWith, AcceptsTurn, inMessage, Taking, QuietRun, QuietTurn, QuietTurns, Tells, Turns, hostTaken}
+use Rattle.det.specs.inner.Take.{Accepts, freshWith, AcceptsTurn, inMessage, Taking, QuietRun, QuietTurns, Tells, Turns, hostTaken}
 use Rattle.words.proofs.StoredLaws.{emitted-none, emitted-length, emitted-then, emitted-whole}
 use Rattle.det.proofs.TakeLaws.{accepted, det-effect, byte-answerable, byte-state, byte-replies}
 

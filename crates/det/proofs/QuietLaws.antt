@@ -1,7 +1,7 @@
 -- Laws of bytes that draw no reply: stretches without an IAC, at rest and in a subnegotiation, and the opening of a whole one.
-use mathlib.Core.Path.{_≡_, refl, sym, ap, _∙_}
+use mathlib.Core.Path.{_≡_, refl, ap, _∙_}
 use mathlib.Core.Bool.{Bool, true, false, not, _&&_}
-use mathlib.Core.List.{List, [], _∷_, _++_}
+use mathlib.Core.List.{List, [], _∷_}
 use Prim.Native.Nat.{ℕ, suc, _+_, _≤_, _<_}
 use native.Mathlib.Omega.{arith}
 use borrow.Author.Tests.{ne-eqb}
@@ -29,7 +29,7 @@ use Rattle.rules.specs.declared.Pad.{Pad}
 use Rattle.rules.specs.Session.{noneHeld, Screen, State, View, lineTakesKeys, session, screen, state, view}
 use Rattle.rules.specs.Effect.{Effect, changedAll, spelledAll, quiet}
 use Rattle.rules.specs.Telnet.{holding, heldAfter, crAfter, hostData, hostText}
-use Rattle.rules.specs.Pad.{isX3, counts, withMessage, padAfter, joins, passes}
+use Rattle.rules.specs.Pad.{isX3, withMessage, padAfter, joins, passes}
 use Rattle.rules.specs.Operation.{Ran, happening, hostByte, applied, running}
 use Rattle.rules.proofs.Characters.{changed-append}
 use Rattle.rules.proofs.Running.{running-append}

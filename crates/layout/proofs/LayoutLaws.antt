@@ -1,5 +1,5 @@
 -- Laws of the layout: a session and its bytes determine each other.
-use Rattle.layout.proofs.Kit.{_≡_, refl, sym, subst, _∙_, Bool, true, false, _&&_, _||_, List, [], _∷_, _++_, ℕ, zero, suc, arith}
+use Rattle.layout.proofs.Kit.{_≡_, refl, sym, subst, _∙_, Bool, true, false, _&&_, _||_, List, _∷_, ℕ, zero, suc, arith}
 use Rattle.layout.proofs.Kit.{eqb, leb, leb-true, eqb-true, eqb-false, le-leb, eq-eqb, ne-eqb, true-or-false, and-left, and-right}
 use Rattle.layout.proofs.Kit.{length, tabulate, tabulated}
 use Rattle.telnet.specs.declared.Verb.{Verb}

@@ -5,13 +5,13 @@ use mathlib.Core.List.{List, [], _∷_, _++_, map}
 use Prim.Native.Nat.{ℕ}
 use Prim.Native.String.{String}
 use Rattle.words.specs.Words.{if_then_else_, bit}
-use Rattle.rules.specs.declared.Governor.the-variants.{Edit, Erase, Transmit, Format0, Format1}
+use Rattle.rules.specs.declared.Governor.the-variants.{EditBit, EraseBit, TransmitBit, Format0Bit, Format1Bit}
 use Rattle.rules.specs.declared.Maps.{Maps}
 use Rattle.rules.specs.Session.{State, noMaps}
 use Rattle.rules.specs.Facility.{agreed}
 use Rattle.rules.specs.Command.{Row, rows}
 use Rattle.rules.specs.cases.Computing.{computing}
-use Rattle.rules.specs.cases.Vocabulary.{Case, Trial, Passes, characters, case, maps, at, asking, detOff, modes, attributed, unchanged, see, keyTrial, observed, expected, seeing}
+use Rattle.rules.specs.cases.Vocabulary.{Case, Trial, Passes, characters, case, maps, at, asking, detOff, modes, attributed, unchanged, det, verb, see, keyTrial, observed, expected, seeing}
 use Rattle.rules.proofs.Passing.{each-equal}
 use Rattle.rules.proofs.Worked.{startF, bytes}
 -- the cases of document 01 and of request (i) are checked first
@@ -22,10 +22,7 @@ use Rattle.rules.proofs.Slow.{slow-holds}
 abbrev unasked : String → List Trial → Case
 unasked title trials = case title (asking noMaps (startF 3 0)) trials
 
--- IAC SB 20 .. IAC SE; such a command, what it leaves and its answer
-abbrev det : List ℕ → List ℕ
-det payload = 0xff ∷ 0xfa ∷ 0x14 ∷ (payload ++ (0xff ∷ 0xf0 ∷ []))
-
+-- a command, what it leaves and its answer
 abbrev does : List ℕ → (State → State) → List ℕ → Trial
 does payload leaves answer = bytes (det payload) leaves answer
 
@@ -56,11 +53,11 @@ agreed-cases =
     ∷ unasked "a facility command that draws an ERROR does not count"
     (edits 4 ∷ errs 10 1 [] ∷ errs 9 1 (16 ∷ 16 ∷ []) ∷ does (16 ∷ []) (see 3 0 "WT 0  #4UNIT mg ") [] ∷ [])
     ∷ unasked "DONT 20 ends it, and DO 20 does not bring it back"
-    (edits 16 ∷ bytes (255 ∷ 254 ∷ 20 ∷ []) detOff (255 ∷ 252 ∷ 20 ∷ []) ∷ bytes (255 ∷ 253 ∷ 20 ∷ []) (modes true false) (255 ∷ 251 ∷ 20 ∷ [])
+    (edits 16 ∷ bytes (verb 254 20) detOff (verb 252 20) ∷ bytes (verb 253 20) (modes true false) (verb 251 20)
     ∷ errs 1 17 [] ∷ [])
     ∷ case "DONT 20 while off leaves it" (modes false false (startF 3 0))
-    (bytes (255 ∷ 254 ∷ 20 ∷ []) unchanged []
-    ∷ bytes (255 ∷ 253 ∷ 20 ∷ []) (modes true false) (255 ∷ 251 ∷ 20 ∷ []) ∷ does (17 ∷ []) unchanged (det (18 ∷ 3 ∷ 0 ∷ [])) ∷ [])
+    (bytes (verb 254 20) unchanged []
+    ∷ bytes (verb 253 20) (modes true false) (verb 251 20) ∷ does (17 ∷ []) unchanged (det (18 ∷ 3 ∷ 0 ∷ [])) ∷ [])
     ∷ unasked "38 as a whole needs protection on/off"
     (errs 1 38 (251 ∷ []) ∷ errs 1 38 (252 ∷ []) ∷ errs 1 38 (253 ∷ []) ∷ errs 1 38 (254 ∷ []) ∷ [])
     ∷ unasked "obeyed with nothing agreed"
@@ -83,11 +80,11 @@ agreed-holds = each-equal agreed-cases agreed-pass
 -- ---- the intersection with the terminal's own maps, whatever the bit and the maps received are
 
 pub record Intersects (m : Maps) (w : ℕ) : Type 0 where
-  pub edit : agreed m (Edit w) ≡ (bit w (m .edit) && bit w 54)
-  pub erase : agreed m (Erase w) ≡ (bit w (m .erase) && bit w 31)
-  pub transmit : agreed m (Transmit w) ≡ (bit w (m .transmit) && bit w 63)
-  pub format0 : agreed m (Format0 w) ≡ (bit w (m .format0) && bit w 144)
-  pub format1 : agreed m (Format1 w) ≡ (bit w (m .format1) && bit w 121)
+  pub edit : agreed m (EditBit w) ≡ (bit w (m .edit) && bit w 54)
+  pub erase : agreed m (EraseBit w) ≡ (bit w (m .erase) && bit w 31)
+  pub transmit : agreed m (TransmitBit w) ≡ (bit w (m .transmit) && bit w 63)
+  pub format0 : agreed m (Format0Bit w) ≡ (bit w (m .format0) && bit w 144)
+  pub format1 : agreed m (Format1Bit w) ≡ (bit w (m .format1) && bit w 121)
 
 pub intersects : (m : Maps) (w : ℕ) → Intersects m w
 unfolding agreed

@@ -47,7 +47,7 @@ use Rattle.rules.specs.Refusal.{isTaken}
 use Rattle.rules.specs.Operation.{happening, hostByte, applied, running, unless, hostBytes, hostRefusal, pressEffect, padPressed, oneKey, keyRefusal}
 use Rattle.rules.specs.Call.{host, key, called}
 use Rattle.rules.specs.Executed.{oneOf}
-use Rattle.rules.specs.Causes.{Aspect, attributes, det, x3, suppression, maps, characters, cursor, values, line, Same, changers, byte, execution, negotiation, keystroke, typing, mayChange, commandCause, messageCause, causeOf, causesIn, keyCause, causesOf, noneChanges, NothingElse, ReaderKept}
+use Rattle.rules.specs.Causes.{Aspect, attributes, det, x3, suppression, received, characters, cursor, values, line, Same, changers, byte, execution, negotiation, keystroke, typing, mayChange, commandCause, messageCause, causeOf, causesIn, keyCause, causesOf, noneChanges, NothingElse, ReaderKept}
 use Rattle.rules.proofs.All.{All, all-append, all-equal}
 use Rattle.rules.proofs.Rows.{in-list, found-code}
 use Rattle.rules.proofs.Options.{by-option}
@@ -60,7 +60,7 @@ record Leaves (may : Aspect → Bool) (v : View) (e : Effect) : Type 0 where
   the-det : may det ≡ false → e .view .frame .det ≡ v .frame .det
   the-x3 : may x3 ≡ false → e .view .frame .x3 ≡ v .frame .x3
   the-suppression : may suppression ≡ false → e .view .frame .suppressed ≡ v .frame .suppressed
-  the-maps : may maps ≡ false → e .view .frame .received ≡ v .frame .received
+  the-received : may received ≡ false → e .view .frame .received ≡ v .frame .received
   the-characters : may characters ≡ false → e .changes ≡ []
   the-cursor : may cursor ≡ false → e .view .frame .cursor ≡ v .frame .cursor
 
@@ -76,11 +76,11 @@ abbrev leaving : {may : Aspect → Bool} {v w : View} {cs : List Change} {ps : L
     → (may attributes ≡ false → w .attrs ≡ v .attrs) → (may det ≡ false → w .frame .det ≡ v .frame .det)
     → (may x3 ≡ false → w .frame .x3 ≡ v .frame .x3)
     → (may suppression ≡ false → w .frame .suppressed ≡ v .frame .suppressed)
-    → (may maps ≡ false → w .frame .received ≡ v .frame .received) → (may characters ≡ false → cs ≡ [])
+    → (may received ≡ false → w .frame .received ≡ v .frame .received) → (may characters ≡ false → cs ≡ [])
     → (may cursor ≡ false → w .frame .cursor ≡ v .frame .cursor)
     → Leaves may v (record { view = w; changes = cs; reply = ps; executed = es })
 leaving a b x c m d e =
-    record { the-attributes = a; the-det = b; the-x3 = x; the-suppression = c; the-maps = m; the-characters = d; the-cursor = e }
+    record { the-attributes = a; the-det = b; the-x3 = x; the-suppression = c; the-received = m; the-characters = d; the-cursor = e }
 
 same : {b : Bool} {A : Type 0} {x : A} → b ≡ false → x ≡ x
 same e = refl
@@ -109,10 +109,10 @@ module _ {v : View} {may : Aspect → Bool} where
   switches : {on : Bool} {ps : List Part} → may det ≡ true → Leaves may v (saying (withModes v on (v .frame .suppressed)) ps)
   switches e = leaving same (not-both _ e) same same same same same
 
-  asks : {m : Maps} {ps : List Part} → may maps ≡ true → Leaves may v (saying (withFrame v (withReceived (v .frame) m)) ps)
+  asks : {m : Maps} {ps : List Part} → may received ≡ true → Leaves may v (saying (withFrame v (withReceived (v .frame) m)) ps)
   asks e = leaving same same same same (not-both _ e) same same
 
-  resets : {on off : Bool} {m : Maps} {ps : List Part} → may det ≡ true → may suppression ≡ true → may maps ≡ true
+  resets : {on off : Bool} {m : Maps} {ps : List Part} → may det ≡ true → may suppression ≡ true → may received ≡ true
       → Leaves may v (saying (withFrame v (withReceived (switched (v .frame) on off) m)) ps)
   resets e d c = leaving same (not-both _ e) same (not-both _ d) (not-both _ c) same same
 
@@ -144,7 +144,7 @@ module _ {may : Aspect → Bool} (e : may characters ≡ true) (d : may cursor �
       → Leaves may v (record { view = rest .view; changes = one .changes ++ rest .changes; reply = ps; executed = es })
   leaves-then one rest a b =
       leaving (λ h. b .the-attributes h ∙ a .the-attributes h) (λ h. b .the-det h ∙ a .the-det h) (λ h. b .the-x3 h ∙ a .the-x3 h)
-      (λ h. b .the-suppression h ∙ a .the-suppression h) (λ h. b .the-maps h ∙ a .the-maps h) (not-both _ e) (not-both _ d)
+      (λ h. b .the-suppression h ∙ a .the-suppression h) (λ h. b .the-received h ∙ a .the-received h) (not-both _ e) (not-both _ d)
 
   leaves-characters : (n : ℕ) (v : View) (c : ℕ) → Leaves may v (hostCharacters n v c)
   unfolding hostCharacters
@@ -242,7 +242,7 @@ module _ (v : View) (h : Held) where
 
   leaves-judged : (r : Row) → LeavesRow r → (f : Fault) → (f ≡ OffScreen → eqb (codeIn h) 5 ≡ true) → LeavesCommand (judged v r h f)
   unfolding judged commandCause mayChange changers oneOf
-  leaves-judged r k NoFault l = leaving (k .the-attributes) (k .the-det) (k .the-x3) (k .the-suppression) (k .the-maps) (k .the-characters) (k .the-cursor)
+  leaves-judged r k NoFault l = leaving (k .the-attributes) (k .the-det) (k .the-x3) (k .the-suppression) (k .the-received) (k .the-characters) (k .the-cursor)
   leaves-judged r k OffScreen l = moves (rw (l refl))
   leaves-judged r k NotAgreed l = says
   leaves-judged r k UnknownCode l = says
@@ -372,7 +372,7 @@ module _ (v : View) where
       (λ e.
       let some : between 1 127 k ≡ true = in-between 1 127 k (omega (arith, eqb-false k 0 e)) (omega (arith, ltb-true k 128 h)) in
       let text = leaves-text {may = λ a. mayChange a (typing k)} some some (echoedAt p k) v in
-      leaving (text .the-attributes) (text .the-det) (text .the-x3) (text .the-suppression) (text .the-maps) (text .the-characters) (text .the-cursor))
+      leaving (text .the-attributes) (text .the-det) (text .the-x3) (text .the-suppression) (text .the-received) (text .the-characters) (text .the-cursor))
 
 leaves-key : (s : State) (k : ℕ) → Leaves (λ a. mayChange a (keyCause (s .session .frame) k)) (viewOf s) (pressEffect s k)
 unfolding keyCause
@@ -400,7 +400,7 @@ same-applied attributes s r p e h k l = k .the-attributes h
 same-applied det s r p e h k l = k .the-det h
 same-applied x3 s r p e h k l = k .the-x3 h
 same-applied suppression s r p e h k l = k .the-suppression h
-same-applied maps s r p e h k l = k .the-maps h
+same-applied received s r p e h k l = k .the-received h
 same-applied characters s r p e h k l = rw (k .the-characters h)
 same-applied cursor s r p e h k l = k .the-cursor h
 same-applied values s r p e h k l = l .the-values h
@@ -412,7 +412,7 @@ same-refl attributes s = refl
 same-refl det s = refl
 same-refl x3 s = refl
 same-refl suppression s = refl
-same-refl maps s = refl
+same-refl received s = refl
 same-refl characters s = refl
 same-refl cursor s = refl
 same-refl values s = refl
@@ -423,7 +423,7 @@ same-then attributes s t u p q = q ∙ p
 same-then det s t u p q = q ∙ p
 same-then x3 s t u p q = q ∙ p
 same-then suppression s t u p q = q ∙ p
-same-then maps s t u p q = q ∙ p
+same-then received s t u p q = q ∙ p
 same-then characters s t u p q = q ∙ p
 same-then cursor s t u p q = q ∙ p
 same-then values s t u p q = q ∙ p

@@ -18,7 +18,7 @@ use Rattle.rules.specs.Refusal.{verdict}
 use Rattle.rules.specs.Operation.{running, pressTests, keyRan}
 use Rattle.rules.specs.Call.{Call, host, key, called, left}
 use Rattle.rules.specs.Executed.{oneOf}
-use Rattle.rules.specs.Causes.{Aspect, attributes, det, x3, suppression, maps, characters, cursor, values, line, changers}
+use Rattle.rules.specs.Causes.{Aspect, attributes, det, x3, suppression, received, characters, cursor, values, line, changers}
 use Rattle.rules.specs.cases.Computing.{computing}
 use Rattle.rules.specs.cases.Vocabulary.{Seen, lent, flag, same, failures, starting, modes, x3Switched, padded, seeing}
 use Rattle.rules.specs.cases.Vocabulary as word
@@ -42,7 +42,7 @@ differs attributes s t = not (same (s .screen .attrs) (t .screen .attrs))
 differs det s t = not (eqb (flag (s .session .frame .det)) (flag (t .session .frame .det)))
 differs x3 s t = not (eqb (flag (s .session .frame .x3)) (flag (t .session .frame .x3)))
 differs suppression s t = not (eqb (flag (s .session .frame .suppressed)) (flag (t .session .frame .suppressed)))
-differs maps s t = let m = s .session .frame .received in let n = t .session .frame .received in
+differs received s t = let m = s .session .frame .received in let n = t .session .frame .received in
     not (same (m .edit ∷ m .erase ∷ m .transmit ∷ m .format0 ∷ m .format1 ∷ []) (n .edit ∷ n .erase ∷ n .transmit ∷ n .format0 ∷ n .format1 ∷ []))
 differs characters s t = not (same (s .screen .chars) (t .screen .chars))
 differs cursor s t = not (eqb (cellOf 4 (s .session .frame .cursor)) (cellOf 4 (t .session .frame .cursor)))
@@ -142,7 +142,7 @@ line-takes attributes k e = not-both false e refl
 line-takes det k e = not-both false e refl
 line-takes x3 k e = not-both false e refl
 line-takes suppression k e = not-both false e refl
-line-takes maps k e = not-both false e refl
+line-takes received k e = not-both false e refl
 line-takes characters k e = and-right (leb 1 k) _ e
 line-takes cursor k e = and-right (leb 1 k) _ e
 line-takes values k e = not-both false e refl
@@ -218,17 +218,17 @@ by-suppression =
       typed = by-typed suppression refl;
     }
 
-by-maps : EachChanges maps
+by-received : EachChanges received
 unfolding computing seeing oneOf changers differs idle
-by-maps =
+by-received =
     record {
-      text = by-text maps refl;
+      text = by-text received refl;
       executed = refl;
       failed = refl;
       verbs = refl;
       messages = refl;
-      keys = by-keys maps refl;
-      typed = by-typed maps refl;
+      keys = by-keys received refl;
+      typed = by-typed received refl;
     }
 
 by-characters : EachChanges characters
@@ -288,7 +288,7 @@ each-changes attributes = by-attributes
 each-changes det = by-det
 each-changes x3 = by-x3
 each-changes suppression = by-suppression
-each-changes maps = by-maps
+each-changes received = by-received
 each-changes characters = by-characters
 each-changes cursor = by-cursor
 each-changes values = by-values

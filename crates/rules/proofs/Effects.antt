@@ -39,7 +39,7 @@ use Rattle.rules.specs.Session.{View, State, printable, cells, x3Cells, 
 use Rattle.rules.specs.Effect.{Effect, Change, Part, bytes, text, changedAll, message, changing, saying, quiet}
 use Rattle.rules.specs.Number.{detOption, dataTransmit, cursorPosition, error}
 use Rattle.rules.specs.Facility.{ownMap}
-use Rattle.rules.specs.Cursor.{cursorGuarded, destination}
+use Rattle.rules.specs.Cursor.{cursorGuarded}
 use Rattle.rules.specs.Telnet.{isOn, accepts, turned, switchedOn, switchedOff, negotiated, hostCharacter, hostCharacters, hostData, hostText}
 use Rattle.rules.specs.Pad.{isX3, counts, response, takesKey, echoedAt, typedTo, passes}
 use Rattle.rules.specs.Command.{Row, Listed, listed, unlisted, parameter, placeIn, valueFault, faultOf}

@@ -57,16 +57,13 @@ use Rattle.rules.specs.cases.Vocabulary.{
   showing,
   attributed,
   unchanged,
+  det,
   seeing,
 }
 use Rattle.rules.proofs.Passing.{same-equal, below-passes, briefly, everywhere}
 use Rattle.rules.proofs.Ready.{passing, ready, key-full, byte-full, pad-kept}
 -- the worked cases are checked first
 use Rattle.rules.proofs.Agreed.{agreed-holds}
-
--- IAC SB 20 .. IAC SE
-abbrev det : List ℕ → List ℕ
-det payload = 0xff ∷ 0xfa ∷ 0x14 ∷ (payload ++ (0xff ∷ 0xf0 ∷ []))
 
 -- ---- the 256 codes
 

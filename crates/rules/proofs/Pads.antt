@@ -1,21 +1,15 @@
 -- What refusal 4 asks of a PAD holds at open, and stays so; and how much goes out at a key.
-use mathlib.Core.Path.{_≡_, refl, _∙_}
-use mathlib.Core.Bool.{Bool, true, false, _&&_}
-use mathlib.Core.List.{List, []}
+use mathlib.Core.Path.{_≡_}
+use mathlib.Core.Bool.{true}
 use Prim.Native.Nat.{ℕ, _≤_, _<_}
 use borrow.Author.Tests.{ltb-true}
 use lib.ListN.{length}
-use Rattle.words.specs.Words.{if_then_else_}
 use Rattle.words.proofs.Laws.{either, and-left, and-right, both}
 use Rattle.telnet.specs.declared.Event.{Event}
 use Rattle.telnet.specs.declared.Event.the-variants.{Nothing, Data, Negotiation, Begin, Sub, End, EndBare, Lost}
-use Rattle.pad.specs.declared.parameter.Values.{Values}
-use Rattle.pad.specs.declared.line.EditLine.{EditLine}
 use Rattle.pad.specs.declared.message.Message.{Message}
-use Rattle.pad.specs.Parameters.{startValues, allAdmissible}
-use Rattle.pad.specs.Line.{textOf, lineOf, lineOk}
-use Rattle.pad.specs.Message.{idleMessage, begun, afterByte, ended}
-use Rattle.typing.specs.Keys.{lineAfter}
+use Rattle.pad.specs.Parameters.{allAdmissible}
+use Rattle.pad.specs.Line.{textOf, lineOk}
 use Rattle.pad.proofs.ParameterLaws.{start-admissible}
 use Rattle.pad.proofs.LineLaws.{ok-length, empty-ok}
 use Rattle.pad.proofs.MessageLaws.{idle-admissible, begun-admissible, byte-admissible, end-admissible}

@@ -1,11 +1,10 @@
 -- What a call does once it has passed the tests that every call has to pass: sizes, buffers, characters, session, reply room.
-use mathlib.Core.Path.{_≡_, refl, ap, _∙_}
+use mathlib.Core.Path.{_≡_, refl, _∙_}
 use mathlib.Core.Bool.{Bool, true, _&&_}
 use mathlib.Core.List.{List, [], _∷_, _++_}
-use Prim.Native.Nat.{ℕ, _<_}
+use Prim.Native.Nat.{ℕ}
 use lib.Dec.{leb}
 use lib.ListN.{length, replicate}
-use Rattle.words.specs.Words.{if_then_else_}
 use Rattle.words.proofs.Laws.{either, and-left, and-right}
 use Rattle.rules.specs.declared.Refusal.{Refusal}
 use Rattle.rules.specs.declared.Refusal.the-variants.{Taken}

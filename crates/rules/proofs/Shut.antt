@@ -12,7 +12,7 @@ use Rattle.rules.specs.Session.{State, screen}
 use Rattle.rules.specs.Refusal.{numberOf}
 use Rattle.rules.specs.Operation.{blank, opened}
 use Rattle.rules.specs.cases.Computing.{computing}
-use Rattle.rules.specs.cases.Vocabulary.{Case, Trial, Passes, characters, case, opening, starting, at, modes, detOff, maps, asking, reading, afterCr, showing, attributed, unchanged, see, hostTrial, keyTrial, refusedTrial, heard, struck, observed, expected, seeing}
+use Rattle.rules.specs.cases.Vocabulary.{Case, Trial, Passes, characters, case, opening, starting, at, modes, detOff, maps, asking, reading, afterCr, showing, attributed, unchanged, det, verb, see, hostTrial, keyTrial, refusedTrial, heard, struck, observed, expected, seeing}
 use Rattle.rules.proofs.Passing.{each-equal, all-pass}
 -- the worked forms are checked first
 use Rattle.rules.proofs.Worked.{worked}
@@ -62,19 +62,12 @@ holds held = reading Rest held (label false 2 0)
 abbrev char : String → ℕ
 char text = getD (characters text) 0 0
 
--- IAC SB 20 .. IAC SE; and with it a transmission, an ERROR
-abbrev det : List ℕ → List ℕ
-det payload = 0xff ∷ 0xfa ∷ 0x14 ∷ (payload ++ (0xff ∷ 0xf0 ∷ []))
-
+-- a transmission, an ERROR
 abbrev from : ℕ → ℕ → String → List ℕ
 from x y text = det (28 ∷ x ∷ y ∷ []) ++ characters text
 
 abbrev error : ℕ → ℕ → List ℕ
 error code number = det (41 ∷ code ∷ number ∷ [])
-
--- IAC, a verb (251 WILL, 252 WONT, 253 DO, 254 DONT), an option
-abbrev verb : ℕ → ℕ → List ℕ
-verb v option = 0xff ∷ v ∷ option ∷ []
 
 -- host bytes, all taken, and what they leave; those that change nothing
 abbrev reads : List ℕ → (State → State) → List ℕ → Trial

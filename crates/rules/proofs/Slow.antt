@@ -2,14 +2,14 @@
 -- `slow-holds` is over all of them.
 use mathlib.Core.Path.{_≡_, refl, _∙_}
 use mathlib.Core.Bool.{Bool, true, false, not, _&&_, _||_}
-use mathlib.Core.List.{List, [], _∷_, _++_, map}
-use Prim.Native.Nat.{ℕ, _-_, _<_}
+use mathlib.Core.List.{List, [], _∷_, _++_}
+use Prim.Native.Nat.{ℕ, _-_}
 use Prim.Native.String.{String}
-use lib.Dec.{ltb, eqb}
+use lib.Dec.{ltb}
 use lib.ListN.{length, replicate}
 use Rattle.words.specs.Words.{if_then_else_, between}
 use Rattle.words.proofs.Laws.{true-or-false, and-left, and-right}
-use Rattle.telnet.specs.declared.Phase.the-variants.{Rest, Iac, Inside, InsideIac}
+use Rattle.telnet.specs.declared.Phase.the-variants.{Rest, Inside}
 use Rattle.telnet.specs.Writer.{subnegotiation}
 use Rattle.pad.specs.declared.message.Message.{Message}
 use Rattle.pad.specs.declared.message.Stage.the-variants.{Code, Parameter, Value}
@@ -51,6 +51,7 @@ use Rattle.rules.specs.cases.Vocabulary.{
   padded,
   showing,
   unchanged,
+  verb,
   hostTrial,
   keyTrial,
   refusedTrial,
@@ -90,9 +91,6 @@ shows x y text pairs line s =
     padded (holding pairs line) (at x y (showing (characters text ++ replicate (40 - length (characters text)) 32) s))
 
 -- ---- calls
-
-abbrev verb : ℕ → ℕ → List ℕ
-verb v option = 255 ∷ v ∷ option ∷ []
 
 -- a message of option 30
 abbrev x3 : List ℕ → List ℕ

@@ -32,7 +32,7 @@ pub data Aspect : Type 0 where
   det : Aspect
   x3 : Aspect
   suppression : Aspect
-  maps : Aspect  -- received
+  received : Aspect  -- the maps received
   characters : Aspect
   cursor : Aspect
   values : Aspect  -- of the PAD's parameters
@@ -43,7 +43,7 @@ Same attributes s t = t .screen .attrs ≡ s .screen .attrs
 Same det s t = t .session .frame .det ≡ s .session .frame .det
 Same x3 s t = t .session .frame .x3 ≡ s .session .frame .x3
 Same suppression s t = t .session .frame .suppressed ≡ s .session .frame .suppressed
-Same maps s t = t .session .frame .received ≡ s .session .frame .received
+Same received s t = t .session .frame .received ≡ s .session .frame .received
 Same characters s t = t .screen .chars ≡ s .screen .chars
 Same cursor s t = t .session .frame .cursor ≡ s .session .frame .cursor
 Same values s t = t .session .pad .values ≡ s .session .pad .values
@@ -86,7 +86,7 @@ changers x3 = switches 30 (253 ∷ 254 ∷ [])
 changers suppression =
     record { text = none; executed = 38 ∷ []; failed = []; option = 20; verbs = 254 ∷ []; messages = []; keys = none; typed = none }
 -- nothing but 1 to 4 and DONT 20
-changers maps =
+changers received =
     record {
       text = none;
       executed = 1 ∷ 2 ∷ 3 ∷ 4 ∷ [];

@@ -69,7 +69,7 @@ use Rattle.rules.specs.Facility.{
   transmitRestOfField,
   repeating,
   protectionOnOff,
-  protection,
+  protectionFacility,
   agreed,
 }
 
@@ -112,7 +112,7 @@ rows =
     ∷ row 17 ReadCursor 0 readCursorAddress never
     ∷ row 19 (Move ReverseTab) 0 backTab never
     ∷ row 20 (Transmit WholeScreen) 0 Ungoverned always
-    ∷ row 21 (Transmit Unprotected) 0 protection never
+    ∷ row 21 (Transmit Unprotected) 0 protectionFacility never
     ∷ row 22 (Transmit WholeLine) 0 transmitLine always
     ∷ row 23 (Transmit WholeField) 0 transmitField never
     ∷ row 24 (Transmit RestOfScreen) 0 transmitRestOfScreen always
@@ -124,7 +124,7 @@ rows =
     ∷ row 32 (Erase RestOfScreen) 0 eraseRestOfScreen never
     ∷ row 33 (Erase RestOfLine) 0 eraseRestOfLine never
     ∷ row 34 (Erase RestOfField) 0 eraseRestOfField never
-    ∷ row 35 (Erase Unprotected) 0 protection never
+    ∷ row 35 (Erase Unprotected) 0 protectionFacility never
     ∷ row 36 FormatData 4 Ungoverned always
     ∷ row 37 Repeat 2 repeating never
     ∷ row 38 SuppressProtection 1 protectionOnOff (onlyWith (verbCode Do))

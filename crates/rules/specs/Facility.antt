@@ -7,7 +7,7 @@ use Rattle.words.specs.Words.{bit}
 use Rattle.rules.specs.declared.Facility.{Facility}
 use Rattle.rules.specs.declared.Facility.the-variants.{Editing, Erasing, Transmitting, Formatting}
 use Rattle.rules.specs.declared.Governor.{Governor}
-use Rattle.rules.specs.declared.Governor.the-variants.{Ungoverned, Edit, Erase, Transmit, Format0, Format1}
+use Rattle.rules.specs.declared.Governor.the-variants.{Ungoverned, EditBit, EraseBit, TransmitBit, Format0Bit, Format1Bit}
 use Rattle.rules.specs.declared.Maps.{Maps}
 
 -- ---- the bits that govern a command. The others govern none that the terminal receives.
@@ -19,59 +19,59 @@ weight (suc n) = 2 * weight n
 
 -- class 1, editing
 abbrev pub incrementalAddressing : Governor
-incrementalAddressing = Edit (weight 5)
+incrementalAddressing = EditBit (weight 5)
 
 abbrev pub readCursorAddress : Governor
-readCursorAddress = Edit (weight 4)
+readCursorAddress = EditBit (weight 4)
 
 abbrev pub charInsertDelete : Governor
-charInsertDelete = Edit (weight 2)
+charInsertDelete = EditBit (weight 2)
 
 abbrev pub backTab : Governor
-backTab = Edit (weight 1)
+backTab = EditBit (weight 1)
 
 -- class 2, erasing: the field has bit 4, the line bit 3
 abbrev pub eraseField : Governor
-eraseField = Erase (weight 4)
+eraseField = EraseBit (weight 4)
 
 abbrev pub eraseLine : Governor
-eraseLine = Erase (weight 3)
+eraseLine = EraseBit (weight 3)
 
 abbrev pub eraseRestOfScreen : Governor
-eraseRestOfScreen = Erase (weight 2)
+eraseRestOfScreen = EraseBit (weight 2)
 
 abbrev pub eraseRestOfLine : Governor
-eraseRestOfLine = Erase (weight 1)
+eraseRestOfLine = EraseBit (weight 1)
 
 abbrev pub eraseRestOfField : Governor
-eraseRestOfField = Erase (weight 0)
+eraseRestOfField = EraseBit (weight 0)
 
 -- class 3, transmitting: the line has bit 4, the field bit 3
 abbrev pub transmitLine : Governor
-transmitLine = Transmit (weight 4)
+transmitLine = TransmitBit (weight 4)
 
 abbrev pub transmitField : Governor
-transmitField = Transmit (weight 3)
+transmitField = TransmitBit (weight 3)
 
 abbrev pub transmitRestOfScreen : Governor
-transmitRestOfScreen = Transmit (weight 2)
+transmitRestOfScreen = TransmitBit (weight 2)
 
 abbrev pub transmitRestOfLine : Governor
-transmitRestOfLine = Transmit (weight 1)
+transmitRestOfLine = TransmitBit (weight 1)
 
 abbrev pub transmitRestOfField : Governor
-transmitRestOfField = Transmit (weight 0)
+transmitRestOfField = TransmitBit (weight 0)
 
 -- class 4, formatting: its first byte, then its second
 abbrev pub repeating : Governor
-repeating = Format0 (weight 4)
+repeating = Format0Bit (weight 4)
 
 abbrev pub protectionOnOff : Governor
-protectionOnOff = Format1 (weight 6)
+protectionOnOff = Format1Bit (weight 6)
 
 -- protection brings TRANSMIT UNPROTECTED and ERASE UNPROTECTED with it
-abbrev pub protection : Governor
-protection = Format1 (weight 5)
+abbrev pub protectionFacility : Governor
+protectionFacility = Format1Bit (weight 5)
 
 -- ---- what is agreed
 
@@ -100,8 +100,8 @@ inBoth w received own = bit w received && bit w own
 -- a command that no bit governs needs none
 unfoldable pub agreed : Maps → Governor → Bool
 agreed m Ungoverned = true
-agreed m (Edit w) = inBoth w (m .edit) (ownMaps .edit)
-agreed m (Erase w) = inBoth w (m .erase) (ownMaps .erase)
-agreed m (Transmit w) = inBoth w (m .transmit) (ownMaps .transmit)
-agreed m (Format0 w) = inBoth w (m .format0) (ownMaps .format0)
-agreed m (Format1 w) = inBoth w (m .format1) (ownMaps .format1)
+agreed m (EditBit w) = inBoth w (m .edit) (ownMaps .edit)
+agreed m (EraseBit w) = inBoth w (m .erase) (ownMaps .erase)
+agreed m (TransmitBit w) = inBoth w (m .transmit) (ownMaps .transmit)
+agreed m (Format0Bit w) = inBoth w (m .format0) (ownMaps .format0)
+agreed m (Format1Bit w) = inBoth w (m .format1) (ownMaps .format1)

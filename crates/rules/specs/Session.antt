@@ -89,57 +89,34 @@ session f r p = record { frame = f; reader = r; pad = p }
 abbrev pub fresh : ℕ → ℕ → Session
 fresh m n = session (freshFrame m n) freshReader freshPad
 
--- the frame with the cursor elsewhere
-abbrev pub placed : Frame → Place → Frame
-placed f cursor =
+-- a frame of the same size
+abbrev pub sized : Frame → Place → Bool → Bool → Bool → Maps → Frame
+sized f cursor det x3 suppressed received =
     record {
       width = f .width;
       height = f .height;
       cursor = cursor;
-      det = f .det;
-      x3 = f .x3;
-      suppressed = f .suppressed;
-      received = f .received;
+      det = det;
+      x3 = x3;
+      suppressed = suppressed;
+      received = received;
     }
+
+-- the frame with the cursor elsewhere
+abbrev pub placed : Frame → Place → Frame
+placed f cursor = sized f cursor (f .det) (f .x3) (f .suppressed) (f .received)
 
 -- DET on or off, protection suppressed or in effect
 abbrev pub switched : Frame → Bool → Bool → Frame
-switched f det suppressed =
-    record {
-      width = f .width;
-      height = f .height;
-      cursor = f .cursor;
-      det = det;
-      x3 = f .x3;
-      suppressed = suppressed;
-      received = f .received;
-    }
+switched f det suppressed = sized f (f .cursor) det (f .x3) suppressed (f .received)
 
 -- option 30 on or off
 abbrev pub withX3 : Frame → Bool → Frame
-withX3 f x3 =
-    record {
-      width = f .width;
-      height = f .height;
-      cursor = f .cursor;
-      det = f .det;
-      x3 = x3;
-      suppressed = f .suppressed;
-      received = f .received;
-    }
+withX3 f x3 = sized f (f .cursor) (f .det) x3 (f .suppressed) (f .received)
 
 -- other maps received
 abbrev pub withReceived : Frame → Maps → Frame
-withReceived f received =
-    record {
-      width = f .width;
-      height = f .height;
-      cursor = f .cursor;
-      det = f .det;
-      x3 = f .x3;
-      suppressed = f .suppressed;
-      received = received;
-    }
+withReceived f received = sized f (f .cursor) (f .det) (f .x3) (f .suppressed) received
 
 -- Request (i): the edit line takes the keys while option 30 is on and DET is off.
 abbrev pub lineTakesKeys : Frame → Bool

@@ -143,11 +143,11 @@ pub enum Command {
 // What governs a subcommand: the bit of this weight in a class's map, or none.
 pub enum Governor {
     Ungoverned,
-    Edit(u8),
-    Erase(u8),
-    Transmit(u8),
-    Format0(u8),
-    Format1(u8),
+    EditBit(u8),
+    EraseBit(u8),
+    TransmitBit(u8),
+    Format0Bit(u8),
+    Format1Bit(u8),
 }
 
 // What the list of subcommands says of a code: what it means, how many parameters it takes, and what governs it.

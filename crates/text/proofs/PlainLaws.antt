@@ -18,7 +18,7 @@ use Rattle.edit.proofs.EditLaws.{copied-whole}
 use Rattle.rules.specs.declared.Frame.{Frame}
 use Rattle.rules.specs.Session.{View, printable, placed, screen, view}
 use Rattle.rules.specs.Cursor.{cursorGuarded, destination, nextCell}
-use Rattle.rules.specs.Effect.{Effect, changed, changedAll}
+use Rattle.rules.specs.Effect.{changed, changedAll}
 use Rattle.rules.specs.Telnet.{hostCharacter}
 use Rattle.text.specs.Text.{Changes}
 use Rattle.text.specs.inner.Text.{Texted, TextStep}

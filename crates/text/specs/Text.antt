@@ -21,7 +21,7 @@ joined cr (b ∷ bs) =
     let rest = joined (eqb b 13) bs in
     if cr && eqb b 10 then rest else b ∷ rest
 
--- the bytes of data that are obeyed: these, or all of them where CR LF is printed as such
+-- the bytes of data that are obeyed: all of them, or those that `joined` leaves where CR LF is printed as CR
 abbrev pub obeyedBytes : Bool → Bool → List ℕ → List ℕ
 obeyedBytes joins cr bytes = if joins then joined cr bytes else bytes
 

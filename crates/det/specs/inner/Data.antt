@@ -7,7 +7,6 @@ use lib.Dec.{eqb}
 use Rattle.words.specs.Words.{if_then_else_}
 use Rattle.telnet.specs.declared.Event.{Event}
 use Rattle.telnet.specs.declared.Event.the-variants.{Nothing, Data, Negotiation, Begin, Sub, End, EndBare, Lost}
-use Rattle.rules.specs.declared.Frame.{Frame}
 use Rattle.rules.specs.declared.Held.{Held}
 use Rattle.rules.specs.Session.{View, lineTakesKeys, screen}
 use Rattle.rules.specs.Effect.{Effect, quiet}

@@ -318,6 +318,14 @@ unchanged s = s
 abbrev pub see : ℕ → ℕ → String → State → State
 see x y text s = at x y (showing (characters text) s)
 
+-- ---- what is sent: IAC SB 20 .. IAC SE; IAC, a verb (251 WILL, 252 WONT, 253 DO, 254 DONT) and an option
+
+abbrev pub det : List ℕ → List ℕ
+det payload = 0xff ∷ 0xfa ∷ 0x14 ∷ (payload ++ (0xff ∷ 0xf0 ∷ []))
+
+abbrev pub verb : ℕ → ℕ → List ℕ
+verb v option = 0xff ∷ v ∷ option ∷ []
+
 -- ---- host bytes, or a key, with so much reply room: taken, or refused with this number
 
 abbrev pub hostTrial : ℕ → List ℕ → ℕ → (State → State) → List ℕ → Trial

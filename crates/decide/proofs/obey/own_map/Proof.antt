@@ -1,5 +1,4 @@
 -- `own_map` meets its contract: one case for each class.
-use mathlib.Core.Path.{refl}
 use borrow.Author.Needs.{needs}
 use Rattle.rules.specs.Facility.{ownMap}
 use Rattle.decide.proofs.obey.own_map.Statement.{statement}

@@ -1,5 +1,5 @@
 -- `obey_data` meets its contract: passed over, or obeyed.
-use mathlib.Core.Path.{refl, sym, _∙_}
+use mathlib.Core.Path.{sym, _∙_}
 use borrow.Author.Needs.{needs}
 use Rattle.det.proofs.TakeLaws.{data-passed, data-obeyed}
 use Rattle.det.proofs.data.obey_data.Statement.{statement}

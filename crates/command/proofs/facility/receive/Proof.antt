@@ -1,12 +1,12 @@
--- `received` meets its contract: one case for each class.
+-- `receive` meets its contract: one case for each class.
 use borrow.Author.Needs.{needs}
 use Rattle.rules.specs.Facility.{receiving}
-use Rattle.command.proofs.facility.received.Statement.{statement}
-use Rattle.command.proofs.facility.received.Tie as tie
+use Rattle.command.proofs.facility.receive.Statement.{statement}
+use Rattle.command.proofs.facility.receive.Tie as tie
 
-pub received-spec : {M : Type 1} → statement M
+pub receive-spec : {M : Type 1} → statement M
 unfolding receiving
-received-spec =
+receive-spec =
     tie.close
     (tie.spec
     (λ c. search needs) (λ c. search needs) (λ c. search needs) (λ c. search needs)

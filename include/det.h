@@ -195,7 +195,7 @@ enum {
 
 /* The terminal's own. */
 enum {
-    DET_OWN_EDIT = 54,
+    DET_OWN_EDIT = 126,
     DET_OWN_ERASE = 31,
     DET_OWN_TRANSMIT = 63,
     DET_OWN_FORMAT_0 = 144,

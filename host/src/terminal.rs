@@ -68,7 +68,7 @@ pub const PARAMETER_COUNT: usize = 28;
 pub const MAP_COUNT: usize = 5;
 
 /// The terminal's own, in that order.
-pub const OWN_MAPS: [u8; MAP_COUNT] = [54, 31, 63, 144, 121];
+pub const OWN_MAPS: [u8; MAP_COUNT] = [126, 31, 63, 144, 121];
 
 const DONE: u8 = 0;
 const NO_SESSION: u8 = 255;

@@ -2,7 +2,7 @@
 
 use crate::cursor::on_screen;
 use crate::desk::Desk;
-use crate::facilities::{class, governing, OWN};
+use crate::facilities::{class, governing, own};
 use crate::format;
 use crate::size::{X, Y};
 use crate::variant::Variant;
@@ -14,11 +14,15 @@ pub mod code {
     pub const TRANSMIT_FACILITIES: u8 = 3;
     pub const FORMAT_FACILITIES: u8 = 4;
     pub const MOVE_CURSOR: u8 = 5;
+    pub const SKIP_TO_LINE: u8 = 6;
+    pub const SKIP_TO_CHAR: u8 = 7;
     pub const UP: u8 = 8;
     pub const DOWN: u8 = 9;
     pub const LEFT: u8 = 10;
     pub const RIGHT: u8 = 11;
     pub const HOME: u8 = 12;
+    pub const LINE_INSERT: u8 = 13;
+    pub const LINE_DELETE: u8 = 14;
     pub const CHAR_INSERT: u8 = 15;
     pub const CHAR_DELETE: u8 = 16;
     pub const READ_CURSOR: u8 = 17;
@@ -61,10 +65,10 @@ pub mod error {
 pub fn parameter_count(code: u8) -> Option<usize> {
     match code {
         code::EDIT_FACILITIES..=code::TRANSMIT_FACILITIES | code::SUPPRESS_PROTECTION => Some(1),
+        code::SKIP_TO_LINE | code::SKIP_TO_CHAR => Some(1),
         code::FORMAT_FACILITIES | code::MOVE_CURSOR | code::REPEAT | code::ERROR => Some(2),
         code::FORMAT_DATA => Some(4),
-        code::UP..=code::HOME => Some(0),
-        code::CHAR_INSERT..=code::READ_CURSOR => Some(0),
+        code::UP..=code::READ_CURSOR => Some(0),
         code::REVERSE_TAB..=code::TRANSMIT_REST_OF_FIELD => Some(0),
         code::ERASE_SCREEN..=code::ERASE_UNPROTECTED => Some(0),
         _ => None,
@@ -122,7 +126,7 @@ impl Desk<'_> {
 
     /// How many parameters the code takes, if it is known.
     fn check_code(&self, code: u8) -> Result<usize, u8> {
-        if self.varies(Variant::Error41Unknown) && code == code::ERROR {
+        if self.forgotten(code) {
             return Err(error::UNKNOWN_CODE);
         }
         let early = self.varies(Variant::Error1BeforeCode) && self.agreed.nothing();
@@ -130,6 +134,16 @@ impl Desk<'_> {
             true => error::NOT_AGREED,
             false => error::UNKNOWN_CODE,
         })
+    }
+
+    /// A known code that a wrong variant does not know.
+    fn forgotten(&self, code: u8) -> bool {
+        match self.variant {
+            Variant::Error41Unknown => code == code::ERROR,
+            Variant::SkipsUnknown => matches!(code, code::SKIP_TO_LINE | code::SKIP_TO_CHAR),
+            Variant::LinesUnknown => matches!(code, code::LINE_INSERT | code::LINE_DELETE),
+            _ => false,
+        }
     }
 
     /// Whether the facility that the command needs is agreed.
@@ -164,6 +178,12 @@ impl Desk<'_> {
             (code::MOVE_CURSOR, &[x, y]) if !on_screen(&self.screen, X(x), Y(y)) => {
                 Err(error::OFF_SCREEN)
             }
+            (code::SKIP_TO_LINE, &[y]) if self.skips_off(y, self.screen.size.n) => {
+                Err(error::BAD_VALUE)
+            }
+            (code::SKIP_TO_CHAR, &[x]) if self.skips_off(x, self.screen.size.m) => {
+                Err(error::BAD_VALUE)
+            }
             (code::FORMAT_DATA, &[map, more, high, low]) => {
                 format::check(&self.screen, [map, more], [high, low])
             }
@@ -171,6 +191,11 @@ impl Desk<'_> {
             (code::SUPPRESS_PROTECTION, &[verb]) => format::check_suppress(verb),
             _ => Ok(()),
         }
+    }
+
+    /// A skip off the screen is right; only a wrong variant minds.
+    fn skips_off(&self, to: u8, length: u8) -> bool {
+        self.varies(Variant::SkipErrors) && to >= length
     }
 
     /// MOVE CURSOR off the screen: the one command that acts although it
@@ -204,11 +229,15 @@ impl Desk<'_> {
         match (code, parameters) {
             (code::EDIT_FACILITIES..=code::FORMAT_FACILITIES, maps) => self.facilities(code, maps),
             (code::MOVE_CURSOR, &[x, y]) => self.screen.move_to(X(x), Y(y)),
+            (code::SKIP_TO_LINE, &[y]) => self.screen.skip_to_line(Y(y)),
+            (code::SKIP_TO_CHAR, &[x]) => self.screen.skip_to_char(X(x)),
             (code::UP, _) => self.screen.up(),
             (code::DOWN, _) => self.screen.down(),
             (code::LEFT, _) => self.screen.left(),
             (code::RIGHT, _) => self.screen.right(),
             (code::HOME, _) => self.screen.home(),
+            (code::LINE_INSERT, _) => self.screen.line_insert(),
+            (code::LINE_DELETE, _) => self.screen.line_delete(),
             (code::CHAR_INSERT, _) => self.screen.insert(),
             (code::CHAR_DELETE, _) => self.screen.delete(),
             (code::READ_CURSOR, _) => self.read_cursor(),
@@ -227,7 +256,7 @@ impl Desk<'_> {
     fn facilities(&mut self, code: u8, maps: &[u8]) {
         self.agreed.receive(code, maps, self.variant);
         let mut answer = vec![code];
-        answer.extend(&OWN[class(code)]);
+        answer.extend(class(code).map(|place| own(place, self.variant)));
         if self.varies(Variant::EraseMapShifted) && code == code::ERASE_FACILITIES {
             answer[1] <<= 1;
         }

@@ -1,7 +1,7 @@
 //! Where the cursor goes.
 
 use crate::screen::Screen;
-use crate::size::{Position, X, Y};
+use crate::size::{Position, Size, X, Y};
 use crate::variant::Variant;
 
 impl Screen<'_> {
@@ -59,6 +59,41 @@ impl Screen<'_> {
         if y.0 <= self.last_y() || !self.varies(Variant::MoveYNotLimited) {
             self.cursor.y = Y(y.0.min(self.last_y()));
         }
+    }
+
+    /// 6: over the last line the screen goes on at its first.
+    pub fn skip_to_line(&mut self, y: Y) {
+        self.cursor.y = match self.variant {
+            Variant::SkipLineLimited => Y(y.0.min(self.last_y())),
+            Variant::SkipLineStays if y.0 > self.last_y() => self.cursor.y,
+            _ => Y(y.0 % self.size.n),
+        };
+        if self.varies(Variant::SkipLineStart) {
+            self.cursor.x = X(0);
+        }
+    }
+
+    /// 7: past the line's end x goes round in the line, and y moves by as
+    /// many lines as N goes into x, round the screen.
+    pub fn skip_to_char(&mut self, x: X) {
+        let Size { m, n } = self.size;
+        let lines = match self.variant {
+            Variant::SkipCharKeepsLine => 0,
+            Variant::SkipCharByWidth => x.0 / m,
+            Variant::SkipCharOneLine => 1,
+            _ => x.0 / n,
+        };
+        if x.0 > self.last_x() || self.varies(Variant::SkipCharAlwaysMoves) {
+            let y = u16::from(self.cursor.y.0) + u16::from(lines);
+            self.cursor.y = match self.variant {
+                Variant::SkipCharStopsAtLast => Y(y.min(self.last_y().into()) as u8),
+                _ => Y((y % u16::from(n)) as u8),
+            };
+        }
+        self.cursor.x = match self.variant {
+            Variant::SkipCharLimited => X(x.0.min(self.last_x())),
+            _ => X(x.0 % m),
+        };
     }
 
     /// 8

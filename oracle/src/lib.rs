@@ -19,6 +19,7 @@ pub mod desk;
 pub mod erase;
 pub mod facilities;
 pub mod format;
+pub mod lines;
 pub mod transmit;
 
 pub mod class;

@@ -317,7 +317,44 @@ variants! {
     KeyDeleteGoverned "key-delete-governed" "key 127 needs the bit of 16";
     KeyFunctionGoverned "key-function-governed" "function keys need the bit of FN";
 
+    // Whole lines and the wrapped screen.
+    SkipsUnknown "skips-unknown" "6 and 7 draw ERROR 2";
+    LinesUnknown "lines-unknown" "13 and 14 draw ERROR 2";
+    EditMapOld "edit-map-old" "our edit map is 54";
+    SkipErrors "skip-errors" "6 and 7 past the last line or character draw ERROR 11";
+    SkipLineLimited "skip-line-limited" "6 past the last line goes to the last";
+    SkipLineStays "skip-line-stays" "6 past the last line does nothing";
+    SkipLineStart "skip-line-start" "6 sets x to 0";
+    SkipCharLimited "skip-char-limited" "7 past the line's end goes to the line's end";
+    SkipCharKeepsLine "skip-char-keeps-line" "7 past the line's end stays in the line";
+    SkipCharOneLine "skip-char-one-line" "7 past the line's end goes one line down, however far";
+    SkipCharByWidth "skip-char-by-width" "7 goes down by the parameter divided by M";
+    SkipCharAlwaysMoves "skip-char-always-moves" "7 within the line changes the line too";
+    SkipCharStopsAtLast "skip-char-stops-at-last" "7 goes down to the last line at most";
+    LineInsertBelow "line-insert-below" "13 puts the spaces below the cursor's line";
+    LineInsertRotates "line-insert-rotates" "13 puts the last line at the cursor's";
+    LineDeleteRotates "line-delete-rotates" "14 puts the cursor's line at the end";
+    LineDeleteKeepsLast "line-delete-keeps-last" "14 leaves the last line where it was too";
+    LinesTakeAttributes "lines-take-attributes" "13 and 14 move attributes too";
+    LinesClearAttributes "lines-clear-attributes" "13 and 14 clear the attributes of the line of spaces";
+    LinesGoToStart "lines-go-to-start" "13 and 14 go to the line's start";
+    LinesNotLast "lines-not-last" "13 and 14 do nothing on the last line";
+    LinesMindNothing "lines-mind-nothing" "13 and 14 move guarded cells too";
+    LinesMindCursorOn "lines-mind-cursor-on" "13 and 14 look for guards from the cursor on";
+    LinesMindCursorCell "lines-mind-cursor-cell" "13 and 14 look at the cursor's cell alone";
+    LinesMindOneLine "lines-mind-one-line" "13 and 14 look at the cursor's line alone";
+    LinesMindScreen "lines-mind-screen" "13 and 14 look for guards on the whole screen";
+    LinesMindProtected "lines-mind-protected" "13 and 14 stop at protected cells while suppressed";
+    SkipsFree "skips-free" "6 and 7 need no facility";
+    LinesFree "lines-free" "13 and 14 need no facility";
+
     // Facilities: another bit, or one where none belongs.
+    Bit6Incremental "bit-6-incremental" "6 and 7 need the bit of 8";
+    Bit6Positive "bit-6-positive" "6 needs bit 0 of the edit map";
+    Bit8Toroidal "bit-8-toroidal" "8 and 9 need the bit of 6";
+    Bit13Chars "bit-13-chars" "13 and 14 need the bit of 15";
+    Bit13ReadCursor "bit-13-read-cursor" "13 and 14 need the bit of 17";
+    Bit14Chars "bit-14-chars" "14 alone needs the bit of 15";
     Bit8ReadCursor "bit-8-read-cursor" "8 to 11 need the bit of 17";
     Bit17Incremental "bit-17-incremental" "17 needs the bit of 8";
     Bit17Lines "bit-17-lines" "17 needs the bit of 13";

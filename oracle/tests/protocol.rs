@@ -157,11 +157,11 @@ fn agreed_maps_show_at_the_end() {
     let open = "open 1 1 1 1\nhost fffd14 90\n";
     let all = "host fffa1401fffffff0fffa1402fffffff0fffa1403fffffff0fffa1404fffffffffff0 90";
     assert_eq!(maps(open), "0000000000");
-    assert_eq!(maps(&format!("{open}{all}")), "361f3f9079");
+    assert_eq!(maps(&format!("{open}{all}")), "7e1f3f9079");
     let less = "host fffa1404108efff0fffa140107fff0 90";
     assert_eq!(maps(&format!("{open}{all}\n{less}")), "061f3f1008");
-    assert_eq!(maps(&format!("{open}{all}\ndet 0\nhost - 9")), "361f3f9079");
-    assert_eq!(maps(&format!("{open}{all}\nkey 0 9")), "361f3f9079");
+    assert_eq!(maps(&format!("{open}{all}\ndet 0\nhost - 9")), "7e1f3f9079");
+    assert_eq!(maps(&format!("{open}{all}\nkey 0 9")), "7e1f3f9079");
     assert_eq!(maps(&format!("{open}{all}\nhost fffe14 90")), "0000000000");
     assert_eq!(maps(&format!("{open}{all}\nopen 1 1 1 1")), "0000000000");
     assert_eq!(maps(&format!("{open}{all}\nopen 1 1 1 2")), "0000000000");

@@ -1,2 +1,3 @@
 pub mod HeldLaws
 pub mod RefusalLaws
+pub mod FaultLaws

@@ -9,10 +9,12 @@ use crate::facility::ERASE_REST_OF_FIELD;
 use crate::facility::ERASE_REST_OF_LINE;
 use crate::facility::ERASE_REST_OF_SCREEN;
 use crate::facility::INCREMENTAL_ADDRESSING;
+use crate::facility::LINE_INSERT_DELETE;
 use crate::facility::PROTECTION;
 use crate::facility::PROTECTION_ON_OFF;
 use crate::facility::READ_CURSOR_ADDRESS;
 use crate::facility::REPEATING;
+use crate::facility::TOROIDAL_ADDRESSING;
 use crate::facility::TRANSMIT_FIELD;
 use crate::facility::TRANSMIT_LINE;
 use crate::facility::TRANSMIT_REST_OF_FIELD;
@@ -61,11 +63,15 @@ pub fn command_of(code: u8) -> Code
             Governor::Ungoverned,
         ),
         5 => known(Command::MoveCursor, 2, Governor::Ungoverned),
+        6 => known(Command::SkipToLine, 1, TOROIDAL_ADDRESSING),
+        7 => known(Command::SkipToChar, 1, TOROIDAL_ADDRESSING),
         8 => known(Command::Move(Destination::Up), 0, INCREMENTAL_ADDRESSING),
         9 => known(Command::Move(Destination::Down), 0, INCREMENTAL_ADDRESSING),
         10 => known(Command::Move(Destination::Left), 0, INCREMENTAL_ADDRESSING),
         11 => known(Command::Move(Destination::Right), 0, INCREMENTAL_ADDRESSING),
         12 => known(Command::Move(Destination::Home), 0, Governor::Ungoverned),
+        13 => known(Command::LineShift(Shift::Insertion), 0, LINE_INSERT_DELETE),
+        14 => known(Command::LineShift(Shift::Deletion), 0, LINE_INSERT_DELETE),
         15 => known(Command::CharShift(Shift::Insertion), 0, CHAR_INSERT_DELETE),
         16 => known(Command::CharShift(Shift::Deletion), 0, CHAR_INSERT_DELETE),
         17 => known(Command::ReadCursor, 0, READ_CURSOR_ADDRESS),

@@ -10,9 +10,13 @@ use rules::Maps;
 use words::bit;
 
 // By the weight of its bit: of the edit map,
+pub(crate) const TOROIDAL_ADDRESSING: Governor = Governor::EditBit(64);
+
 pub(crate) const INCREMENTAL_ADDRESSING: Governor = Governor::EditBit(32);
 
 pub(crate) const READ_CURSOR_ADDRESS: Governor = Governor::EditBit(16);
+
+pub(crate) const LINE_INSERT_DELETE: Governor = Governor::EditBit(8);
 
 pub(crate) const CHAR_INSERT_DELETE: Governor = Governor::EditBit(4);
 
@@ -49,7 +53,7 @@ pub(crate) const PROTECTION: Governor = Governor::Format1Bit(32);
 
 // The terminal's own maps.
 pub const OWN: Maps = Maps {
-    edit: 54,
+    edit: 126,
     erase: 31,
     transmit: 63,
     format0: 144,

@@ -61,7 +61,6 @@ fn value_fault(frame: Frame, attrs: &[u8], command: Command, held: Held) -> Faul
     ensures { λ r. ⌜ r ≡ valueFault (seen frame (attrs .entry)) command held ⌝ }
 {
     match command {
-        Command::Facilities(_) => Fault::NoFault,
         Command::MoveCursor => {
             let place = place_parameters(held);
             unless(
@@ -69,15 +68,10 @@ fn value_fault(frame: Frame, attrs: &[u8], command: Command, held: Held) -> Faul
                 Fault::OffScreen,
             )
         }
-        Command::Move(_) => Fault::NoFault,
-        Command::CharShift(_) => Fault::NoFault,
-        Command::ReadCursor => Fault::NoFault,
-        Command::Transmit(_) => Fault::NoFault,
-        Command::Erase(_) => Fault::NoFault,
         Command::FormatData => format_fault(frame, attrs, held),
         Command::Repeat => unless(is_printable(second_parameter(held)), Fault::BadValue),
         Command::SuppressProtection => unless(is_verb(first_parameter(held)), Fault::BadValue),
-        Command::Error => Fault::NoFault,
+        _ => Fault::NoFault,
     }
 }
 

@@ -22,12 +22,12 @@ use Rattle.rules.specs.declared.Fault.the-variants.{NoFault, NotAgreed, Unknown
 use Rattle.rules.proofs.Fault.{the-type}
 use Rattle.rules.specs.declared.Frame.{Frame}
 use Rattle.rules.specs.declared.Held.{Held}
-use Rattle.rules.specs.Session.{View, cells, cursorCell, withAttrs}
+use Rattle.rules.specs.Session.{View, cells, cursorCell, screenEnd, withAttrs}
 use Rattle.rules.specs.Command.{Row, Listed, listed, unlisted, meaning, codeIn, faultOf}
 use Rattle.rules.specs.Effect.{Effect}
 use Rattle.rules.specs.Cursor.{cursorGuarded, homeCell, backTabCell, firstFieldCell, nextFieldCell, previousOpenCell}
 use Rattle.rules.specs.Telnet.{hostCharacter, hostCharacters}
-use Rattle.rules.specs.Subcommand.{cursorSpanEnd, shifting, erring, judged, looked}
+use Rattle.rules.specs.Subcommand.{cursorSpanEnd, shifting, cursorLineStart, linesGuarded, lineShifting, erring, judged, looked}
 use Rattle.command.specs.inner.Frame.{OnScreen, Fits}
 use Rattle.decide.specs.declared.decision.Edit.the-variants.{Nothing}
 use Rattle.decide.specs.declared.decision.Edit.the-variants as edit
@@ -90,8 +90,17 @@ module _ {v : View} {guarded : Bool} (e : guarded ≡ cursorGuarded v) (s : Shif
   shift-not t = record { meaning = rw (sym e ∙ t); sendable = tt }
 
   pub shift-span : guarded ≡ false
-      → Decides v (decision (v .frame) (edit.Shift s (cursorCell v) (cursorSpanEnd v)) Silent Keep) (λ v. shifting v s)
+      → Decides v (decision (v .frame) (edit.Shift s (cursorCell v) (cursorSpanEnd v) 1) Silent Keep) (λ v. shifting v s)
   shift-span t = record { meaning = rw (sym e ∙ t); sendable = tt }
+
+-- 13 and 14: the same, by a cell of the lines
+module _ {v : View} {guarded : Bool} (e : guarded ≡ linesGuarded v) (s : Shift) where
+  pub lines-not : guarded ≡ true → Decides v (decision (v .frame) Nothing Silent Keep) (λ v. lineShifting v s)
+  lines-not t = record { meaning = rw (sym e ∙ t); sendable = tt }
+
+  pub lines-shifted : guarded ≡ false
+      → Decides v (decision (v .frame) (edit.Shift s (cursorLineStart v) (screenEnd v) (v .frame .width)) Silent Keep) (λ v. lineShifting v s)
+  lines-shifted t = record { meaning = rw (sym e ∙ t); sendable = tt }
 
 -- 37: a repeated character touches no attribute byte, and says nothing
 repeat-attrs : (n : ℕ) (v : View) (c : ℕ) → (hostCharacters n v c) .view .attrs ≡ v .attrs

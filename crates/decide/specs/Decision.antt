@@ -27,7 +27,7 @@ abbrev pub edited : View → Edit → Effect
 edited v Nothing = quiet v
 edited v (Put cell c) = changing v (put cell c ∷ [])
 edited v (Erase suppressed from end) = changing v (erase suppressed from end ∷ [])
-edited v (Shift s from end) = changing v (shift s from end 1 ∷ [])
+edited v (Shift s from end by) = changing v (shift s from end by ∷ [])
 edited v (Repeat n c) = hostCharacters n v c
 
 -- what is sent

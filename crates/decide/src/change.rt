@@ -1,6 +1,6 @@
-// Changes of the screen: erasures, 29 to 35, and the shifts, 15 and 16.
+// Changes of the screen: erasures, 29 to 35, and the shifts, 13 to 16.
 ghost use mathlib.Core.Path.{_≡_};
-ghost use Rattle.rules.specs.Subcommand.{erasure, cursorSpanEnd, shifting};
+ghost use Rattle.rules.specs.Subcommand.{erasure, cursorSpanEnd, shifting, lineShifting};
 ghost use Rattle.command.specs.Frame.{seen};
 ghost use Rattle.command.specs.inner.Frame.{Fits};
 ghost use Rattle.decide.specs.Decision.{Decides};
@@ -22,6 +22,7 @@ use screen::cell::line_end;
 use screen::cell::line_start;
 use screen::field::field_end;
 use screen::field::field_start;
+use screen::field::some_guarded;
 use screen::field::span_end;
 
 // Spaces in the cells of a range that are not guarded.
@@ -119,6 +120,27 @@ pub(crate) fn char_shift(frame: Frame, attrs: &[u8], shift: Shift) -> Decision
             shift: shift,
             from: cursor_cell(frame),
             end: cursor_span_end(frame, attrs),
+            by: 1,
+        },
+    )
+}
+
+// 13, 14: nothing where a cell from the start of the line on is guarded.
+pub(crate) fn line_shift(frame: Frame, attrs: &[u8], shift: Shift) -> Decision
+    ensures { λ r. ⌜ Decides (seen frame (attrs .entry)) r (λ v. lineShifting v shift) ⌝ }
+{
+    let from = line_start(frame.width, frame.cursor.y);
+    let guarded = some_guarded(frame.suppressed, attrs, from);
+    if guarded {
+        return quiet(frame);
+    }
+    editing(
+        frame,
+        Edit::Shift {
+            shift: shift,
+            from: from,
+            end: attrs.len(),
+            by: frame.width as usize,
         },
     )
 }

@@ -1,11 +1,14 @@
 // Where the cursor goes.
 ghost use mathlib.Core.Path.{_≡_};
-ghost use Prim.Native.Nat.{_*_, _-_, _<_, min};
+ghost use Prim.Native.Nat.{_+_, _*_, _-_, _%_, _<_, min};
 ghost use Rattle.screen.specs.Cells.{place, placeOf};
 ghost use Rattle.rules.specs.Session.{placed};
 ghost use Rattle.rules.specs.Command.{placeIn};
 ghost use Rattle.rules.specs.Cursor.{
   limited,
+  skippedToLine,
+  linesDown,
+  skippedToChar,
   oneMore,
   lineBelow,
   nextCell,
@@ -72,6 +75,43 @@ pub(crate) fn limited(frame: Frame, held: Held) -> Frame
             limit(place.y.0, frame.height),
         ),
     )
+}
+
+// 6: past the last line it goes on from the first.
+pub(crate) fn skipped_to_line(frame: Frame, y: u8) -> Frame
+    requires { ⌜ OnScreen frame ⌝ }
+    ensures { λ r. ⌜ r ≡ placed frame (skippedToLine frame y) ⌝ }
+{
+    moved(frame, at(frame.cursor.x.0, y % frame.height))
+}
+
+// 7: the lines that a skip past the line's end goes down.
+fn lines_down(frame: Frame, x: u8) -> u8
+    requires { ⌜ OnScreen frame ⌝ }
+    ensures { λ r. ⌜ r ≡ linesDown frame x ⌝ }
+{
+    x / frame.height
+}
+
+// So many lines below a line, around the screen.
+fn line_around(frame: Frame, y: u8, down: u8) -> u8
+    requires { ⌜ OnScreen frame ⌝ }
+    ensures { λ r. ⌜ r ≡ (y + down) % frame .height ⌝ }
+{
+    ((y as usize + down as usize) % frame.height as usize) as u8
+}
+
+// 7: past the line's end both go round.
+pub(crate) fn skipped_to_char(frame: Frame, x: u8) -> Frame
+    requires { ⌜ OnScreen frame ⌝ }
+    ensures { λ r. ⌜ r ≡ placed frame (skippedToChar frame x) ⌝ }
+{
+    let y = frame.cursor.y.0;
+    if x < frame.width {
+        return moved(frame, at(x, y));
+    }
+    let down = lines_down(frame, x);
+    moved(frame, at(x % frame.width, line_around(frame, y, down)))
 }
 
 // 0 stays 0.

@@ -19,11 +19,12 @@ pub enum Edit {
         from: usize,
         end: usize,
     },
-    // by one cell
+    // by so many cells
     Shift {
         shift: Shift,
         from: usize,
         end: usize,
+        by: usize,
     },
     // a host character so many times, from the cursor on
     Repeat {

@@ -13,8 +13,11 @@ ghost use Rattle.decide.specs.Decision.{partsOf, Sendable, Decides, wher
 ghost use Rattle.decide.specs.inner.Decision.{decision, Judges};
 use crate::change::char_shift;
 use crate::change::erase;
+use crate::change::line_shift;
 use crate::cursor::limited;
 use crate::cursor::sent_to;
+use crate::cursor::skipped_to_char;
+use crate::cursor::skipped_to_line;
 use crate::decision::Decision;
 use crate::decision::Edit;
 use crate::decision::Format;
@@ -173,7 +176,10 @@ fn obey(frame: Frame, attrs: &[u8], command: Command, held: Held) -> Decision
     match command {
         Command::Facilities(facility) => facilities(frame, facility, held),
         Command::MoveCursor => quiet(limited(frame, held)),
+        Command::SkipToLine => quiet(skipped_to_line(frame, first_parameter(held))),
+        Command::SkipToChar => quiet(skipped_to_char(frame, first_parameter(held))),
         Command::Move(to) => quiet(sent_to(frame, attrs, to)),
+        Command::LineShift(shift) => line_shift(frame, attrs, shift),
         Command::CharShift(shift) => char_shift(frame, attrs, shift),
         Command::ReadCursor => read_cursor(frame),
         Command::Transmit(area) => transmit(frame, attrs, area),

@@ -26,7 +26,7 @@ pub not-repeat : (edit : Edit) → OneOf (0 ∷ 1 ∷ 2 ∷ 3 ∷ []) (tagOf the
 not-repeat Nothing h v = refl
 not-repeat (Put cell c) h v = refl
 not-repeat (Erase suppressed from end) h v = refl
-not-repeat (Shift s from end) h v = refl
+not-repeat (Shift s from end by) h v = refl
 not-repeat (Repeat n c) h v =
     absurd (⊎-elim (λ p. omega arith) (⊎-elim (λ p. omega arith) (⊎-elim (λ p. omega arith) (λ p. omega arith))) h)
 

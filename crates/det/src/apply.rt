@@ -39,7 +39,12 @@ fn change_cells(edit: Edit, chars: &mut [u8], attrs: &[u8])
             from,
             end,
         } => erase(suppressed, chars, attrs, from, end),
-        Edit::Shift { shift, from, end } => shift_range(chars, from, end, shift, 1),
+        Edit::Shift {
+            shift,
+            from,
+            end,
+            by,
+        } => shift_range(chars, from, end, shift, by),
         Edit::Repeat { count: _, byte: _ } => {}
     }
 }

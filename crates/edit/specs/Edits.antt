@@ -13,14 +13,14 @@ use Rattle.words.specs.Words.{if_then_else_, tabulate}
 use Rattle.screen.specs.Words.{inRange}
 use Rattle.screen.specs.Attributes.{attributeAt, guardedAt}
 
--- 16, char delete: the part moves `by` cells towards its start, and spaces come in at its end
+-- 14 and 16, line and char delete: the part moves `by` cells towards its start, and spaces come in at its end
 abbrev pub deletedCell : ℕ → List ℕ → ℕ → ℕ
 deletedCell by part i = getD part (i + by) 32
 
 unfoldable pub deleted : ℕ → List ℕ → List ℕ
 deleted by part = tabulate (deletedCell by part) 0 (length part)
 
--- 15, char insert: the part moves `by` cells towards its end, its last characters are lost, and spaces come in at its start
+-- 13 and 15, line and char insert: the part moves `by` cells towards its end, its last characters are lost, and spaces come in at its start
 abbrev pub insertedCell : ℕ → List ℕ → ℕ → ℕ
 insertedCell by part i = if ltb i by then 32 else getD part (i - by) 32
 

@@ -32,13 +32,13 @@ errs number code parameters = does (code ∷ parameters) unchanged (det (41 ∷ 
 
 -- the edit map is asked for
 abbrev edits : ℕ → Trial
-edits map = does (1 ∷ map ∷ []) (asking (maps map 0 0 0 0)) (det (1 ∷ 54 ∷ []))
+edits map = does (1 ∷ map ∷ []) (asking (maps map 0 0 0 0)) (det (1 ∷ 126 ∷ []))
 
 unfoldable pub agreed-cases : List Case
 agreed-cases =
     unasked "a command that is not agreed draws ERROR 1" (errs 1 16 [] ∷ errs 1 21 [] ∷ errs 1 35 [] ∷ errs 1 37 (3 ∷ 120 ∷ []) ∷ [])
     ∷ unasked "ERROR 1 goes before the parameter count" (errs 1 16 (0 ∷ []) ∷ errs 1 37 [] ∷ errs 1 38 [] ∷ [])
-    ∷ unasked "ERROR 2 goes before ERROR 1" (errs 2 6 [] ∷ errs 2 18 [] ∷ errs 2 42 [] ∷ [])
+    ∷ unasked "ERROR 2 goes before ERROR 1" (errs 2 18 [] ∷ errs 2 27 [] ∷ errs 2 42 [] ∷ [])
     ∷ unasked "ERROR 1 goes before the values" (errs 1 37 (1 ∷ 7 ∷ []) ∷ errs 1 38 (9 ∷ []) ∷ [])
     ∷ unasked "no command byte draws ERROR 10" (bytes (det []) unchanged (det (41 ∷ 0 ∷ 10 ∷ [])) ∷ [])
     ∷ unasked "the bit asked for is agreed, no other"
@@ -80,7 +80,7 @@ agreed-holds = each-equal agreed-cases agreed-pass
 -- ---- the intersection with the terminal's own maps, whatever the bit and the maps received are
 
 pub record Intersects (m : Maps) (w : ℕ) : Type 0 where
-  pub edit : agreed m (EditBit w) ≡ (bit w (m .edit) && bit w 54)
+  pub edit : agreed m (EditBit w) ≡ (bit w (m .edit) && bit w 126)
   pub erase : agreed m (EraseBit w) ≡ (bit w (m .erase) && bit w 31)
   pub transmit : agreed m (TransmitBit w) ≡ (bit w (m .transmit) && bit w 63)
   pub format0 : agreed m (Format0Bit w) ≡ (bit w (m .format0) && bit w 144)
@@ -109,7 +109,8 @@ each byte = map (λ w. with (byte w)) (128 ∷ 64 ∷ 32 ∷ 16 ∷ 8 ∷ 4 ∷ 
 
 pub record Governs : Type 0 where
   pub none : free ≡ 1 ∷ 2 ∷ 3 ∷ 4 ∷ 5 ∷ 12 ∷ 20 ∷ 29 ∷ 36 ∷ 41 ∷ []
-  pub edit : each (λ w. maps w 0 0 0 0) ≡ [] ∷ [] ∷ (8 ∷ 9 ∷ 10 ∷ 11 ∷ []) ∷ (17 ∷ []) ∷ [] ∷ (15 ∷ 16 ∷ []) ∷ (19 ∷ []) ∷ [] ∷ []
+  pub edit : each (λ w. maps w 0 0 0 0)
+      ≡ [] ∷ (6 ∷ 7 ∷ []) ∷ (8 ∷ 9 ∷ 10 ∷ 11 ∷ []) ∷ (17 ∷ []) ∷ (13 ∷ 14 ∷ []) ∷ (15 ∷ 16 ∷ []) ∷ (19 ∷ []) ∷ [] ∷ []
   pub erase : each (λ w. maps 0 w 0 0 0) ≡ [] ∷ [] ∷ [] ∷ (31 ∷ []) ∷ (30 ∷ []) ∷ (32 ∷ []) ∷ (33 ∷ []) ∷ (34 ∷ []) ∷ []
   pub transmit : each (λ w. maps 0 0 w 0 0) ≡ [] ∷ [] ∷ [] ∷ (22 ∷ []) ∷ (23 ∷ []) ∷ (24 ∷ []) ∷ (25 ∷ []) ∷ (26 ∷ []) ∷ []
   pub format0 : each (λ w. maps 0 0 0 w 0) ≡ [] ∷ [] ∷ [] ∷ (37 ∷ []) ∷ [] ∷ [] ∷ [] ∷ [] ∷ []

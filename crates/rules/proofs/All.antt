@@ -13,6 +13,11 @@ module _ {A : Type 0} (P : A → Type 0) where
   all-append [] ys p q = q
   all-append (x ∷ xs) ys p q = (p .0, all-append xs ys (p .1) q)
 
+-- of the first, and of all the rest
+infixr 2 _and_
+abbrev pub _and_ : {A B : Type 0} → A → B → A × B
+_and_ first rest = (first, rest)
+
 head : {A : Type 0} → A → List A → A
 head d [] = d
 head d (x ∷ xs) = x

@@ -28,7 +28,7 @@ use Rattle.rules.specs.declared.Held.{Held}
 use Rattle.rules.specs.declared.Reader.{Reader}
 use Rattle.rules.specs.declared.Pad.{Pad}
 use Rattle.rules.specs.declared.Command.{Command}
-use Rattle.rules.specs.declared.Command.the-variants.{Facilities, MoveCursor, Move, CharShift, ReadCursor, Transmit, Erase, FormatData, Repeat, SuppressProtection, Error}
+use Rattle.rules.specs.declared.Command.the-variants.{Facilities, MoveCursor, SkipToLine, SkipToChar, Move, LineShift, CharShift, ReadCursor, Transmit, Erase, FormatData, Repeat, SuppressProtection, Error}
 use Rattle.rules.specs.declared.Maps.{Maps}
 use Rattle.rules.specs.declared.Governor.{Governor}
 use Rattle.rules.specs.declared.Fault.{Fault}
@@ -48,7 +48,7 @@ use Rattle.rules.specs.Operation.{happening, hostByte, applied, running,
 use Rattle.rules.specs.Call.{host, key, called}
 use Rattle.rules.specs.Executed.{oneOf}
 use Rattle.rules.specs.Causes.{Aspect, attributes, det, x3, suppression, received, characters, cursor, values, line, Same, changers, byte, execution, negotiation, keystroke, typing, mayChange, commandCause, messageCause, causeOf, causesIn, keyCause, causesOf, noneChanges, NothingElse, ReaderKept}
-use Rattle.rules.proofs.All.{All, all-append, all-equal}
+use Rattle.rules.proofs.All.{All, _and_, all-equal}
 use Rattle.rules.proofs.Rows.{in-list, found-code}
 use Rattle.rules.proofs.Options.{by-option}
 -- what a call executes is checked first
@@ -169,7 +169,10 @@ module _ {may : Aspect → Bool} (e : may characters ≡ true) (d : may cursor �
 isMove : Command → Bool
 isMove MoveCursor = true
 isMove (Facilities f) = false
+isMove SkipToLine = false
+isMove SkipToChar = false
 isMove (Move to) = false
+isMove (LineShift s) = false
 isMove (CharShift s) = false
 isMove ReadCursor = false
 isMove (Transmit area) = false
@@ -191,7 +194,10 @@ module _ (v : View) (h : Held) where
   unfolding valueFault isMove
   limits-value MoveCursor = λ e. refl
   limits-value (Facilities f) = λ e. cc
+  limits-value SkipToLine = λ e. cc
+  limits-value SkipToChar = λ e. cc
   limits-value (Move to) = λ e. cc
+  limits-value (LineShift s) = λ e. cc
   limits-value (CharShift s) = λ e. cc
   limits-value ReadCursor = λ e. cc
   limits-value (Transmit area) = λ e. cc
@@ -224,17 +230,18 @@ module _ (v : View) (h : Held) where
   leaves-rows : All LeavesRow rows
   unfolding rows obeyed transmitted erasure mayChange changers oneOf
   leaves-rows =
-      all-append LeavesRow (take 10 rows) (drop 10 rows)
-      -- 1 to 5, 8 to 12
-      (asks refl, (asks refl, (asks refl, (asks refl, (moves refl, (moves refl, (moves refl, (moves refl, (moves refl, (moves refl, tt))))))))))
-      (all-append LeavesRow (take 11 (drop 10 rows)) (drop 21 rows)
-      -- 15, 16, 17, 19, 20 to 26
-      (edits refl, (edits refl, (says, (moves refl, (moves refl, (moves refl, (moves refl, (says, (says, (says, (says, tt)))))))))))
-      (all-append LeavesRow (take 7 (drop 21 rows)) (drop 28 rows)
+      -- 1 to 5
+      asks refl and asks refl and asks refl and asks refl and moves refl
+      -- 6 to 12
+      and moves refl and moves refl and moves refl and moves refl and moves refl and moves refl and moves refl
+      -- 13 to 16, 17, 19
+      and edits refl and edits refl and edits refl and edits refl and says and moves refl
+      -- 20 to 26
+      and moves refl and moves refl and moves refl and says and says and says and says
       -- 29 to 35
-      (clears refl refl refl, (edits refl, (edits refl, (edits refl, (edits refl, (edits refl, (writes refl refl, tt)))))))
+      and clears refl refl refl and edits refl and edits refl and edits refl and edits refl and edits refl and writes refl refl
       -- 36, 37, 38, 41
-      (formats refl, (leaves-characters refl refl _ v _, (leaves-suppressing refl _, (says, tt))))))
+      and formats refl and leaves-characters refl refl _ v _ and leaves-suppressing refl _ and says and tt
 
   -- what was obeyed, by what was executed
   abbrev LeavesCommand : Effect → Type 0

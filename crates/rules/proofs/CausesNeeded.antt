@@ -65,6 +65,7 @@ command code =
     (if leb code 3 then code ∷ 0 ∷ []
     else if eqb code 4 then 4 ∷ 0 ∷ 0 ∷ []
     else if eqb code 5 then 5 ∷ 3 ∷ 2 ∷ []
+    else if leb code 7 then code ∷ 0 ∷ []
     else if eqb code 36 then 36 ∷ 9 ∷ 0 ∷ 0 ∷ 1 ∷ []
     else if eqb code 37 then 37 ∷ 1 ∷ 120 ∷ []
     else if eqb code 38 then 38 ∷ 254 ∷ []

@@ -12,8 +12,6 @@ use Rattle.telnet.specs.declared.Verb.the-variants.{Will, Wont, Do, Dont}
 use Rattle.telnet.specs.declared.Event.{Event}
 use Rattle.telnet.specs.declared.Event.the-variants.{Nothing, Data, Negotiation, Begin, Sub, End, EndBare, Lost}
 use Rattle.telnet.specs.Writer.{doubled, subnegotiation, negotiation}
-use Rattle.edit.specs.declared.range.Shift.{Shift}
-use Rattle.edit.specs.declared.range.Shift.the-variants.{Deletion}
 use Rattle.screen.specs.declared.cell.Place.{Place}
 use Rattle.words.specs.Words.{if_then_else_, between}
 use Rattle.screen.specs.Cells.{placeOf}
@@ -29,7 +27,7 @@ use Rattle.rules.specs.declared.Destination.the-variants.{Down, Left, Co
 use Rattle.rules.specs.declared.Area.{Area}
 use Rattle.rules.specs.declared.Area.the-variants.{WholeScreen, Unprotected, WholeLine, WholeField, RestOfScreen, RestOfLine, RestOfField}
 use Rattle.rules.specs.declared.Command.{Command}
-use Rattle.rules.specs.declared.Command.the-variants.{Facilities, MoveCursor, Move, CharShift, ReadCursor, Transmit, Erase, FormatData, Repeat, SuppressProtection, Error}
+use Rattle.rules.specs.declared.Command.the-variants.{Facilities, MoveCursor, SkipToLine, SkipToChar, Move, LineShift, CharShift, ReadCursor, Transmit, Erase, FormatData, Repeat, SuppressProtection, Error}
 use Rattle.rules.specs.declared.Fault.{Fault}
 use Rattle.rules.specs.declared.Maps.{Maps}
 use Rattle.rules.specs.declared.Fault.the-variants.{NoFault, NotAgreed, UnknownCode, OffScreen, TooManyParameters, TooFewParameters, BadValue, BadMap}
@@ -43,7 +41,7 @@ use Rattle.rules.specs.Cursor.{cursorGuarded}
 use Rattle.rules.specs.Telnet.{isOn, accepts, turned, switchedOn, switchedOff, negotiated, hostCharacter, hostCharacters, hostData, hostText}
 use Rattle.rules.specs.Pad.{isX3, counts, response, takesKey, echoedAt, typedTo, passes}
 use Rattle.rules.specs.Command.{Row, Listed, listed, unlisted, parameter, placeIn, valueFault, faultOf}
-use Rattle.rules.specs.Subcommand.{preface, unlessGuarded, fieldFrom, transmitted, erasure, shifting, suppressing, obeyed, judged, looked, subcommand}
+use Rattle.rules.specs.Subcommand.{preface, unlessGuarded, fieldFrom, transmitted, erasure, linesGuarded, suppressing, obeyed, judged, looked, subcommand}
 use Rattle.rules.specs.Key.{keyOf, pressed}
 use Rattle.rules.specs.Operation.{happening, pressEffect}
 use Rattle.rules.proofs.Characters.{Text, Fine, text-changed, changed-append}
@@ -51,7 +49,7 @@ use Rattle.rules.proofs.Errors.{no-fault}
 use Rattle.rules.proofs.Options.{by-option}
 use Rattle.rules.proofs.Pads.{SoundPad, sent-most}
 use Rattle.rules.proofs.Replies.{InRoom, Follows, fits-nothing, fits-bytes, fits-within, fits-prefaced, place-message, error-message, function-message, response-message, one-text, no-text, fields-text}
-use Rattle.rules.proofs.Views.{On, SoundView, at-place, switched, asked, turned-x3, attributed, limited-on, place-on, some, field-lt, cursor-lt, destination-on, goes}
+use Rattle.rules.proofs.Views.{On, SoundView, at-place, switched, asked, turned-x3, attributed, limited-on, skipped-line-on, skipped-char-on, place-on, some, field-lt, cursor-lt, destination-on, goes}
 
 -- what an effect keeps on a screen m cells wide and n lines high
 pub record Keeps (m n : ℕ) (e : Effect) : Type 0 where
@@ -214,15 +212,19 @@ module _ {m n : ℕ} {v : View} (k : SoundView m n v) where
   keeps-map Transmitting m₁ = tells (asked k m₁) _ (omega arith)
   keeps-map Formatting m₁ = tells (asked k m₁) _ (omega arith)
 
-  keeps-shift : (s : Shift) → Keeps m n (shifting v s)
-  keeps-shift s = either (λ cs. Keeps m n (changing v cs)) (cursorGuarded v) (λ g. quietly k) (λ g. changes k _ tt)
+  -- a change, unless something is guarded
+  changes-unless : (guarded : Bool) (c : Change) → Fine c → Keeps m n (changing v (if guarded then [] else c ∷ []))
+  changes-unless guarded c f = either (λ cs. Keeps m n (changing v cs)) guarded (λ g. quietly k) (λ g. changes k c f)
 
   keeps-obeyed : (c : Command) (h : Held) → valueFault v c h ≡ NoFault → Keeps m n (obeyed v c h)
   unfolding obeyed valueFault
   keeps-obeyed (Facilities f) h e = keeps-map f _
   keeps-obeyed MoveCursor h e = quietly (at-place k _ (limited-on k (placeIn h)))
+  keeps-obeyed SkipToLine h e = quietly (at-place k _ (skipped-line-on k (parameter h 0)))
+  keeps-obeyed SkipToChar h e = quietly (at-place k _ (skipped-char-on k (parameter h 0)))
   keeps-obeyed (Move to) h e = quietly (goes k to)
-  keeps-obeyed (CharShift s) h e = keeps-shift s
+  keeps-obeyed (LineShift s) h e = changes-unless (linesGuarded v) _ tt
+  keeps-obeyed (CharShift s) h e = changes-unless (cursorGuarded v) _ tt
   keeps-obeyed ReadCursor h e = tells k _ (omega (arith, place-long k cursorPosition refl (v .frame .cursor) (k .cursor)))
   keeps-obeyed (Transmit a) h e = keeps-transmitted a
   keeps-obeyed (Erase a) h e = keeps-erasure a
@@ -309,7 +311,7 @@ keeps-pressed k (Typed c) p = changes (goes k NextOpen) _ p
 keeps-pressed k Back p = quietly (goes k PreviousOpen)
 keeps-pressed k Tab p = quietly (goes k NextField)
 keeps-pressed k Send p = keeps-transmitted k Unprotected
-keeps-pressed k Delete p = keeps-shift k Deletion
+keeps-pressed {v = v} k Delete p = changes-unless k (cursorGuarded v) _ tt
 keeps-pressed k (Function f) p = tells k _ (function-message f)
 keeps-pressed k Meaningless p = quietly k
 

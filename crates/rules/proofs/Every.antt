@@ -63,16 +63,16 @@ use Rattle.rules.specs.cases.Vocabulary.{
 use Rattle.rules.proofs.Passing.{same-equal, below-passes, briefly, everywhere}
 use Rattle.rules.proofs.Ready.{passing, ready, key-full, byte-full, pad-kept}
 -- the worked cases are checked first
-use Rattle.rules.proofs.Agreed.{agreed-holds}
+use Rattle.rules.proofs.Lines.{lines-hold}
 
 -- ---- the 256 codes
 
 -- how many parameters the document's list gives a code, if it has the code
 unfoldable pub listedParameters : ℕ → List ℕ
 listedParameters code =
-    if oneOf (8 ∷ 9 ∷ 10 ∷ 11 ∷ 12 ∷ 15 ∷ 16 ∷ 17 ∷ 19 ∷ 20 ∷ 21 ∷ 22 ∷ 23 ∷ 24 ∷ 25 ∷ 26 ∷ 29 ∷ 30 ∷ 31 ∷ 32 ∷ 33 ∷ 34 ∷ 35 ∷ []) code
+    if oneOf (8 ∷ 9 ∷ 10 ∷ 11 ∷ 12 ∷ 13 ∷ 14 ∷ 15 ∷ 16 ∷ 17 ∷ 19 ∷ 20 ∷ 21 ∷ 22 ∷ 23 ∷ 24 ∷ 25 ∷ 26 ∷ 29 ∷ 30 ∷ 31 ∷ 32 ∷ 33 ∷ 34 ∷ 35 ∷ []) code
     then 0 ∷ []
-    else if oneOf (1 ∷ 2 ∷ 3 ∷ 38 ∷ []) code then 1 ∷ []
+    else if oneOf (1 ∷ 2 ∷ 3 ∷ 6 ∷ 7 ∷ 38 ∷ []) code then 1 ∷ []
     else if oneOf (4 ∷ 5 ∷ 37 ∷ 41 ∷ []) code then 2 ∷ []
     else if eqb code 36 then 4 ∷ []
     else []
@@ -353,7 +353,7 @@ answered v received payload = saying (withFrame v (withReceived (v .frame) recei
 
 pub record Constant (v : View) (h : Held) : Type 0 where
   pub edit-map : let m = v .frame .received in obeyed v (Facilities Editing) h
-      ≡ answered v (maps (getD (h .bytes) 1 0) (m .erase) (m .transmit) (m .format0) (m .format1)) (1 ∷ 54 ∷ [])
+      ≡ answered v (maps (getD (h .bytes) 1 0) (m .erase) (m .transmit) (m .format0) (m .format1)) (1 ∷ 126 ∷ [])
   pub erase-map : let m = v .frame .received in obeyed v (Facilities Erasing) h
       ≡ answered v (maps (m .edit) (getD (h .bytes) 1 0) (m .transmit) (m .format0) (m .format1)) (2 ∷ 31 ∷ [])
   pub transmit-map : let m = v .frame .received in obeyed v (Facilities Transmitting) h

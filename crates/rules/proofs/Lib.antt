@@ -4,6 +4,7 @@ pub mod Shut
 pub mod Ready
 pub mod Slow
 pub mod Agreed
+pub mod Lines
 pub mod All
 pub mod Rows
 pub mod Every

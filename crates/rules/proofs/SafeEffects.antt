@@ -12,10 +12,12 @@ use Rattle.telnet.specs.declared.Verb.the-variants.{Will, Wont, Do, Dont}
 use Rattle.telnet.specs.declared.Event.{Event}
 use Rattle.telnet.specs.declared.Event.the-variants.{Nothing, Data, Negotiation, Begin, Sub, End, EndBare, Lost}
 use Rattle.telnet.specs.Reader.{verbCode}
+use Rattle.edit.specs.declared.range.Shift.{Shift}
 use Rattle.words.specs.Words.{if_then_else_}
 use Rattle.screen.specs.Attributes.{protectedAt}
 use Rattle.screen.specs.Fields.{fieldEnd, spanEnd}
 use Rattle.words.proofs.Laws.{either, not-both, and-left}
+use Rattle.screen.proofs.WordLaws.{none-passes}
 use Rattle.screen.proofs.FieldLaws.{start-le, span-open, field-open, opens-unprotected}
 use Rattle.rules.specs.declared.Held.{Held}
 use Rattle.rules.specs.declared.Frame.{Frame}
@@ -33,11 +35,11 @@ use Rattle.rules.specs.Effect.{Effect, Part}
 use Rattle.rules.specs.Cursor.{cursorGuarded}
 use Rattle.rules.specs.Telnet.{turned, switchedOn, switchedOff, negotiated, hostCharacter, hostCharacters, hostData, hostText}
 use Rattle.rules.specs.Pad.{response, echoedAt, typedTo, passes}
-use Rattle.rules.specs.Subcommand.{fieldTexts, withoutFirst, transmitted, erasure, suppressing, obeyed, judged, looked, subcommand}
+use Rattle.rules.specs.Subcommand.{fieldTexts, withoutFirst, transmitted, erasure, cursorLineStart, linesGuarded, lineShifting, suppressing, obeyed, judged, looked, subcommand}
 use Rattle.rules.specs.Key.{needsOf, given, pressed}
 use Rattle.rules.specs.Operation.{happening}
 use Rattle.rules.specs.Noninterference.{noneReaches}
-use Rattle.rules.proofs.All.{All, all-append}
+use Rattle.rules.proofs.All.{All, _and_, all-append}
 use Rattle.rules.proofs.Rows.{IfListed, in-list}
 use Rattle.rules.proofs.Options.{by-option}
 use Rattle.rules.proofs.Safe.{Open, SafeChange, SafePart}
@@ -108,6 +110,10 @@ module _ (v : View) (protecting : v .frame .suppressed ≡ false) where
       → All P (if cursorGuarded v then [] else x ∷ [])
   unless-guarded P x f = either (All P) (cursorGuarded v) (λ g. tt) (λ g. (f (open-cursor v protecting g), tt))
 
+  unless-lines-guarded : (s : Shift) → All (SafeChange (v .attrs)) ((lineShifting v s) .changes)
+  unless-lines-guarded s = either (All (SafeChange (v .attrs))) (linesGuarded v) (λ g. tt)
+      (λ g. (λ i a b. rw protecting at (none-passes _ _ (cursorLineStart v) _ i g (omega arith) a b), tt))
+
   -- ---- negotiation
 
   safe-negotiated : (verb : Verb) (option : ℕ) → SafeEffect (v .attrs) (negotiated v verb option)
@@ -143,102 +149,22 @@ module _ (v : View) (protecting : v .frame .suppressed ≡ false) where
   safe-rows : All SafeRow rows
   unfolding rows reaches obeyed transmitted erasure
   safe-rows =
-      -- 1, 2, 3, 4, 5
-      (
-        λ h r. search,
-        (
-          λ h r. search,
-          (
-            λ h r. search,
-            (
-              λ h r. search,
-              (
-                λ h r. search,
-                -- 8, 9, 10, 11, 12
-                (
-                  λ h r. search,
-                  (
-                    λ h r. search,
-                    (
-                      λ h r. search,
-                      (
-                        λ h r. search,
-                        (
-                          λ h r. search,
-                          -- 15, 16
-                          (
-                            λ h r. search (unless-guarded, open-span),
-                            (
-                              λ h r. search (unless-guarded, open-span),
-                              -- 17, 19
-                              (
-                                λ h r. search,
-                                (
-                                  λ h r. search,
-                                  -- 20, 21, 22
-                                  (
-                                    λ h. past,
-                                    (
-                                      λ h r. safe-fields,
-                                      (
-                                        λ h. past,
-                                        -- 23
-                                        (
-                                          λ h r. search (unless-guarded, field-open),
-                                          -- 24, 25
-                                          (
-                                            λ h. past,
-                                            (
-                                              λ h. past,
-                                              -- 26
-                                              (
-                                                λ h r. search (unless-guarded, open-rest),
-                                                -- 29, 30, 31
-                                                (
-                                                  λ h. past,
-                                                  (
-                                                    λ h r. search,
-                                                    (
-                                                      λ h r. search,
-                                                      -- 32, 33, 34, 35
-                                                      (
-                                                        λ h r. search,
-                                                        (
-                                                          λ h r. search,
-                                                          (
-                                                            λ h r. search,
-                                                            (
-                                                              λ h r. search,
-                                                              -- 36, 37, 38, 41
-                                                              (λ h. past, (λ h r. safe-characters _ v protecting _, (λ h. safe-suppressing _, (λ h r. search, tt)))),
-                                                            ),
-                                                          ),
-                                                        ),
-                                                      ),
-                                                    ),
-                                                  ),
-                                                ),
-                                              ),
-                                            ),
-                                          ),
-                                        ),
-                                      ),
-                                    ),
-                                  ),
-                                ),
-                              ),
-                            ),
-                          ),
-                        ),
-                      ),
-                    ),
-                  ),
-                ),
-              ),
-            ),
-          ),
-        ),
-      )
+      -- 1 to 5
+      (λ h r. search) and (λ h r. search) and (λ h r. search) and (λ h r. search) and (λ h r. search)
+      -- 6 to 12
+      and (λ h r. search) and (λ h r. search) and (λ h r. search) and (λ h r. search) and (λ h r. search) and (λ h r. search) and (λ h r. search)
+      -- 13 to 16
+      and (λ h r. search (unless-lines-guarded)) and (λ h r. search (unless-lines-guarded))
+      and (λ h r. search (unless-guarded, open-span)) and (λ h r. search (unless-guarded, open-span))
+      -- 17, 19
+      and (λ h r. search) and (λ h r. search)
+      -- 20 to 26
+      and (λ h. past) and (λ h r. safe-fields) and (λ h. past) and (λ h r. search (unless-guarded, field-open)) and (λ h. past) and (λ h. past)
+      and (λ h r. search (unless-guarded, open-rest))
+      -- 29 to 35
+      and (λ h. past) and (λ h r. search) and (λ h r. search) and (λ h r. search) and (λ h r. search) and (λ h r. search) and (λ h r. search)
+      -- 36, 37, 38, 41
+      and (λ h. past) and (λ h r. safe-characters _ v protecting _) and (λ h. safe-suppressing _) and (λ h r. search) and tt
 
   safe-judged : (r : Row) → SafeRow r → (h : Held) (f : Fault) → Allowed (v .attrs) (judged v r h f)
   unfolding judged noneReaches

@@ -229,7 +229,7 @@ moves =
     ∷ form "8 up, 9 down, 10 left, 11 right" 3 0 (goes 8 3 0 ∷ goes 11 3 0 ∷ goes 9 3 1 ∷ goes 9 3 1 ∷ goes 10 2 1 ∷ [])
     ∷ form "steps back, and 17 answers 18 x y" 0 1 (goes 10 0 1 ∷ goes 8 0 0 ∷ goes 11 1 0 ∷ sends 17 1 0 (det (18 ∷ 1 ∷ 0 ∷ [])) ∷ [])
     ∷ form "1 to 4 answer the terminal's own map" 2 0
-    (reads (det (1 ∷ 7 ∷ [])) (asking (maps 7 255 255 255 255)) (det (1 ∷ 54 ∷ []))
+    (reads (det (1 ∷ 7 ∷ [])) (asking (maps 7 255 255 255 255)) (det (1 ∷ 126 ∷ []))
     ∷ reads (det (2 ∷ 0 ∷ [])) (asking (maps 7 0 255 255 255)) (det (2 ∷ 31 ∷ []))
     ∷ reads (det (3 ∷ 9 ∷ [])) (asking (maps 7 0 9 255 255)) (det (3 ∷ 63 ∷ []))
     ∷ reads (det (4 ∷ 1 ∷ 2 ∷ [])) (asking (maps 7 0 9 1 2)) (det (4 ∷ 144 ∷ 121 ∷ [])) ∷ [])
@@ -313,10 +313,10 @@ errors =
     ∷ form "too many parameters where none are taken" 2 0 (errs 9 11 (1 ∷ []) ∷ errs 9 11 (replicate 8 1) ∷ [])
     ∷ form "parameter count goes before values" 2 0
     (errs 10 36 (replicate 3 32) ∷ errs 9 36 (replicate 5 32) ∷ errs 9 36 (replicate 12 32) ∷ [])
-    ∷ form "all other codes draw ERROR 2" 2 0 (map (λ code. errs 2 code []) (0 ∷ 6 ∷ 7 ∷ 13 ∷ 14 ∷ 18 ∷ 27 ∷ 28 ∷ 39 ∷ 40 ∷ 42 ∷ 254 ∷ []))
+    ∷ form "all other codes draw ERROR 2" 2 0 (map (λ code. errs 2 code []) (0 ∷ 18 ∷ 27 ∷ 28 ∷ 39 ∷ 40 ∷ 42 ∷ 254 ∷ []))
     ∷ form "an unknown code, whatever follows it" 2 0
-    (errs 2 6 (replicate 8 1) ∷ hears (det (255 ∷ 255 ∷ [])) (det (41 ∷ 255 ∷ 255 ∷ 2 ∷ [])) ∷ [])
-    ∷ lifted "ERROR leaves protection suppressed" 2 0 (errs 2 6 [] ∷ errs 9 11 (1 ∷ []) ∷ errs 11 37 (0 ∷ 31 ∷ []) ∷ [])
+    (errs 2 18 (replicate 8 1) ∷ hears (det (255 ∷ 255 ∷ [])) (det (41 ∷ 255 ∷ 255 ∷ 2 ∷ [])) ∷ [])
+    ∷ lifted "ERROR leaves protection suppressed" 2 0 (errs 2 18 [] ∷ errs 9 11 (1 ∷ []) ∷ errs 11 37 (0 ∷ 31 ∷ []) ∷ [])
     ∷ []
 
 pub errors-pass : Passes errors

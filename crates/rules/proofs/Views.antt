@@ -3,6 +3,7 @@ use mathlib.Core.Path.{_≡_, _∙_}
 use mathlib.Core.Bool.{Bool, true}
 use mathlib.Core.List.{List}
 use Prim.Native.Nat.{ℕ, _+_, _*_, _≤_, _<_}
+use native.Mathlib.Nat.{mod-lt}
 use native.Mathlib.Omega.{arith}
 use borrow.Author.Tests.{ltb-true}
 use lib.Dec.{ltb}
@@ -18,7 +19,7 @@ use Rattle.rules.specs.declared.Destination.{Destination}
 use Rattle.rules.specs.declared.Destination.the-variants.{Up, Down, Left, Right, Corner, LineStart, NextLine, NextCell, Home, ReverseTab, FirstField, NextField, NextOpen, PreviousOpen}
 use Rattle.rules.specs.declared.Maps.{Maps}
 use Rattle.rules.specs.Session.{View, x3Cells, withX3, withReceived, cursorCell, withCursor, withModes, withFrame, withAttrs}
-use Rattle.rules.specs.Cursor.{limited, oneMore, nextCell, homeCell, backTabCell, firstFieldCell, nextFieldCell, previousOpenCell, destination, sentTo}
+use Rattle.rules.specs.Cursor.{limited, skippedToLine, skippedToChar, oneMore, nextCell, homeCell, backTabCell, firstFieldCell, nextFieldCell, previousOpenCell, destination, sentTo}
 -- the sentences of document 01 are checked first, so that a wrong rule is refused there
 use Rattle.rules.proofs.Causes.{nothing-else}
 
@@ -93,6 +94,16 @@ module _ {m n : ℕ} {v : View} (k : SoundView m n v) where
   -- MOVE CURSOR's limits
   pub limited-on : (p : Place) → On m n (limited (v .frame) p)
   limited-on p = omega arith
+
+  -- a skip goes round
+  pub skipped-line-on : (y : ℕ) → On m n (skippedToLine (v .frame) y)
+  skipped-line-on y = (k .cursor .0, rw (k .sizes .height) (mod-lt y (omega arith)))
+
+  pub skipped-char-on : (x : ℕ) → On m n (skippedToChar (v .frame) x)
+  unfolding skippedToChar
+  skipped-char-on x =
+      either (On m n) (ltb x (v .frame .width)) (λ e. (omega (arith, ltb-true), k .cursor .1))
+      (λ e. (rw (k .sizes .width) (mod-lt x (omega arith)), rw (k .sizes .height) (mod-lt _ (omega arith))))
 
   next-on : On m n (nextCell (v .frame))
   unfolding nextCell

@@ -97,12 +97,12 @@ changers received =
       keys = none;
       typed = none;
     }
--- nothing but host text, 37, the shifts 15, 16 and key 127, the erasures 29 to 35, typing, and what the edit line echoes, where a 0
+-- nothing but host text, 37, the shifts 13 to 16 and key 127, the erasures 29 to 35, typing, and what the edit line echoes, where a 0
 -- shows nothing
 changers characters =
     record {
       text = printableOr [];
-      executed = 15 ∷ 16 ∷ 29 ∷ 30 ∷ 31 ∷ 32 ∷ 33 ∷ 34 ∷ 35 ∷ 37 ∷ [];
+      executed = 13 ∷ 14 ∷ 15 ∷ 16 ∷ 29 ∷ 30 ∷ 31 ∷ 32 ∷ 33 ∷ 34 ∷ 35 ∷ 37 ∷ [];
       failed = [];
       option = 20;
       verbs = [];
@@ -110,12 +110,12 @@ changers characters =
       keys = printableOr (127 ∷ []);
       typed = between 1 127;
     }
--- nothing but host text, CR, LF and BS; 5 even where it draws an ERROR, 8 to 12, 19 to 22, 29, 35, 37; typing, keys 8, 9 and 13, and what
+-- nothing but host text, CR, LF and BS; 5 even where it draws an ERROR, 6 to 12, 19 to 22, 29, 35, 37; typing, keys 8, 9 and 13, and what
 -- the edit line echoes
 changers cursor =
     record {
       text = printableOr (13 ∷ 10 ∷ 8 ∷ []);
-      executed = 5 ∷ 8 ∷ 9 ∷ 10 ∷ 11 ∷ 12 ∷ 19 ∷ 20 ∷ 21 ∷ 22 ∷ 29 ∷ 35 ∷ 37 ∷ [];
+      executed = 5 ∷ 6 ∷ 7 ∷ 8 ∷ 9 ∷ 10 ∷ 11 ∷ 12 ∷ 19 ∷ 20 ∷ 21 ∷ 22 ∷ 29 ∷ 35 ∷ 37 ∷ [];
       failed = 5 ∷ [];
       option = 20;
       verbs = [];

@@ -1,5 +1,5 @@
--- Document 01, "Subcommands", and document 02, request (ii): the list of commands, what governs each, the ERROR that one draws, and the
--- seven that reach past protection.
+-- Document 01, "Subcommands", and document 02, requests (ii) and (iii): the list of commands, what governs each, the ERROR that one
+-- draws, and the seven that reach past protection.
 use mathlib.Core.Bool.{Bool, true, false, not, _&&_}
 use mathlib.Core.List.{List, [], _∷_}
 use Prim.Native.Nat.{ℕ, suc, _+_, _*_}
@@ -27,7 +27,10 @@ use Rattle.rules.specs.declared.Command.{Command}
 use Rattle.rules.specs.declared.Command.the-variants.{
   Facilities,
   MoveCursor,
+  SkipToLine,
+  SkipToChar,
   Move,
+  LineShift,
   CharShift,
   ReadCursor,
   Transmit,
@@ -53,8 +56,10 @@ use Rattle.rules.specs.declared.Fault.the-variants.{
 }
 use Rattle.rules.specs.Session.{View, printable, cursorCell, screenEnd}
 use Rattle.rules.specs.Facility.{
+  toroidalAddressing,
   incrementalAddressing,
   readCursorAddress,
+  lineInsertDelete,
   charInsertDelete,
   backTab,
   eraseField,
@@ -102,11 +107,15 @@ rows =
     ∷ row 3 (Facilities Transmitting) 1 Ungoverned never
     ∷ row 4 (Facilities Formatting) 2 Ungoverned never
     ∷ row 5 MoveCursor 2 Ungoverned never
+    ∷ row 6 SkipToLine 1 toroidalAddressing never
+    ∷ row 7 SkipToChar 1 toroidalAddressing never
     ∷ row 8 (Move Up) 0 incrementalAddressing never
     ∷ row 9 (Move Down) 0 incrementalAddressing never
     ∷ row 10 (Move Left) 0 incrementalAddressing never
     ∷ row 11 (Move Right) 0 incrementalAddressing never
     ∷ row 12 (Move Home) 0 Ungoverned never
+    ∷ row 13 (LineShift Insertion) 0 lineInsertDelete never
+    ∷ row 14 (LineShift Deletion) 0 lineInsertDelete never
     ∷ row 15 (CharShift Insertion) 0 charInsertDelete never
     ∷ row 16 (CharShift Deletion) 0 charInsertDelete never
     ∷ row 17 ReadCursor 0 readCursorAddress never
@@ -186,7 +195,10 @@ valueFault v FormatData h =
 valueFault v Repeat h = if printable (parameter h 1) then NoFault else BadValue
 valueFault v SuppressProtection h = if between (verbCode Will) (verbCode Dont) (parameter h 0) then NoFault else BadValue
 valueFault v (Facilities facility) h = NoFault
+valueFault v SkipToLine h = NoFault
+valueFault v SkipToChar h = NoFault
 valueFault v (Move to) h = NoFault
+valueFault v (LineShift s) h = NoFault
 valueFault v (CharShift s) h = NoFault
 valueFault v ReadCursor h = NoFault
 valueFault v (Transmit area) h = NoFault

@@ -1,6 +1,7 @@
--- Document 01, "Telnet bytes", "Cells, fields and guards", "Subcommands" and "Keys": where the cursor goes.
+-- Document 01, "Telnet bytes", "Cells, fields and guards", "Subcommands" and "Keys", and document 02, request (iii): where the cursor
+-- goes.
 use mathlib.Core.Bool.{Bool, not}
-use Prim.Native.Nat.{ℕ, _+_, _-_, min}
+use Prim.Native.Nat.{ℕ, _+_, _-_, _/_, _%_, min}
 use lib.Dec.{ltb}
 use Rattle.screen.specs.declared.cell.Place.{Place}
 use Rattle.words.specs.Words.{if_then_else_}
@@ -35,6 +36,20 @@ cursorGuarded v = guardedAt (v .frame .suppressed) (v .attrs) (cursorCell v)
 -- 5: a place beyond the screen's edge is brought back to the edge
 abbrev pub limited : Frame → Place → Place
 limited f p = place (min (p .x .0) (f .width - 1)) (min (p .y .0) (f .height - 1))
+
+-- 6: to line y, x stays; past the last line it goes on from the first
+abbrev pub skippedToLine : Frame → ℕ → Place
+skippedToLine f y = place (f .cursor .x .0) (y % f .height)
+
+-- 7: the lines that a skip to character position x goes down. Source documents 000 and 003 both divide by N, the number of lines, and not
+-- by M (docs/DECISIONS.md, 77).
+unfoldable pub linesDown : Frame → ℕ → ℕ
+linesDown f x = x / f .height
+
+-- 7: to character position x, y stays; past the line's end both go round
+unfoldable pub skippedToChar : Frame → ℕ → Place
+skippedToChar f x =
+    if ltb x (f .width) then place x (f .cursor .y .0) else place (x % f .width) ((f .cursor .y .0 + linesDown f x) % f .height)
 
 -- one more, but below the limit
 abbrev pub oneMore : ℕ → ℕ → ℕ

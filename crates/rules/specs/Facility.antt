@@ -1,5 +1,6 @@
--- Document 01, "Subcommands", 1 to 4, and document 02, request (ii): facilities. What a bit of a map stands for, by "Facility Functions"
--- in section 2 of source documents 003 and 000; the maps that the terminal sends; and what is agreed, by section 5 of 000.
+-- Document 01, "Subcommands", 1 to 4, and document 02, requests (ii) and (iii): facilities. What a bit of a map stands for, by
+-- "Facility Functions" in section 2 of source documents 003 and 000; the maps that the terminal sends; and what is agreed, by section 5
+-- of 000.
 use mathlib.Core.Bool.{Bool, true, _&&_}
 use mathlib.Core.List.{List, [], _∷_}
 use Prim.Native.Nat.{ℕ, zero, suc, _*_}
@@ -18,11 +19,17 @@ weight zero = 1
 weight (suc n) = 2 * weight n
 
 -- class 1, editing
+abbrev pub toroidalAddressing : Governor
+toroidalAddressing = EditBit (weight 6)
+
 abbrev pub incrementalAddressing : Governor
 incrementalAddressing = EditBit (weight 5)
 
 abbrev pub readCursorAddress : Governor
 readCursorAddress = EditBit (weight 4)
+
+abbrev pub lineInsertDelete : Governor
+lineInsertDelete = EditBit (weight 3)
 
 abbrev pub charInsertDelete : Governor
 charInsertDelete = EditBit (weight 2)
@@ -77,7 +84,7 @@ protectionFacility = Format1Bit (weight 5)
 
 -- The terminal's own maps. The erase map has the bits of the five partial erasures, 0 to 4 in source document 000.
 abbrev pub ownMaps : Maps
-ownMaps = record { edit = 54; erase = 31; transmit = 63; format0 = 144; format1 = 121 }
+ownMaps = record { edit = 126; erase = 31; transmit = 63; format0 = 144; format1 = 121 }
 
 -- 1 to 4 are answered with their own code and the terminal's own map
 unfoldable pub ownMap : Facility → List ℕ

@@ -1,5 +1,5 @@
--- Document 01, "Subcommands", and document 02, request (ii): what each does.
-use mathlib.Core.Bool.{true, false}
+-- Document 01, "Subcommands", and document 02, requests (ii) and (iii): what each does.
+use mathlib.Core.Bool.{Bool, true, false}
 use mathlib.Core.List.{List, [], _∷_}
 use Prim.Native.Nat.{ℕ, zero, suc, _+_}
 use lib.Dec.{eqb}
@@ -11,7 +11,8 @@ use Rattle.screen.specs.declared.cell.Place.{Place}
 use Rattle.edit.specs.declared.range.Shift.{Shift}
 use Rattle.words.specs.Words.{if_then_else_}
 use Rattle.screen.specs.Cells.{placeOf, lineStart, lineEnd}
-use Rattle.screen.specs.Fields.{opensAt, fieldStart, fieldEnd, spanEnd}
+use Rattle.screen.specs.Attributes.{guardedAt}
+use Rattle.screen.specs.Fields.{someFrom, opensAt, fieldStart, fieldEnd, spanEnd}
 use Rattle.edit.specs.Edits.{formatted}
 use Rattle.rules.specs.declared.Held.{Held}
 use Rattle.rules.specs.declared.Destination.the-variants.{Corner, LineStart, NextLine, FirstField}
@@ -29,7 +30,10 @@ use Rattle.rules.specs.declared.Command.{Command}
 use Rattle.rules.specs.declared.Command.the-variants.{
   Facilities,
   MoveCursor,
+  SkipToLine,
+  SkipToChar,
   Move,
+  LineShift,
   CharShift,
   ReadCursor,
   Transmit,
@@ -55,7 +59,7 @@ use Rattle.rules.specs.Number.{cursorPosition, dataTransmit, suppressPro
 use Rattle.rules.specs.Facility.{ownMap, receiving}
 use Rattle.rules.specs.Command.{Row, Listed, listed, unlisted, rowOf, codeIn, parameter, placeIn, formatCount, faultOf}
 use Rattle.rules.specs.Effect.{Effect, Part, text, erase, shift, message, changing, saying, quiet}
-use Rattle.rules.specs.Cursor.{cursorGuarded, limited, destination, sentTo}
+use Rattle.rules.specs.Cursor.{cursorGuarded, limited, skippedToLine, skippedToChar, destination, sentTo}
 use Rattle.rules.specs.Telnet.{hostCharacters}
 
 -- ---- transmissions
@@ -135,6 +139,17 @@ cursorSpanEnd v =
 abbrev pub shifting : View → Shift → Effect
 shifting v s = changing v (if cursorGuarded v then [] else shift s (cursorCell v) (cursorSpanEnd v) 1 ∷ [])
 
+-- the cells from the start of the cursor's line to the end of the screen: the first, and whether any is guarded
+abbrev pub cursorLineStart : View → ℕ
+cursorLineStart v = lineStart (v .frame .width) (v .frame .cursor .y)
+
+abbrev pub linesGuarded : View → Bool
+linesGuarded v = someFrom (guardedAt (v .frame .suppressed) (v .attrs)) (v .attrs) (cursorLineStart v)
+
+-- 13 and 14: nothing where one of them is guarded, else all of them shifted by a line
+abbrev pub lineShifting : View → Shift → Effect
+lineShifting v s = changing v (if linesGuarded v then [] else shift s (cursorLineStart v) (screenEnd v) (v .frame .width) ∷ [])
+
 -- 38: suppress, end it, and the two questions, answered as in negotiation
 abbrev pub suppressionAnswer : Verb → Part
 suppressionAnswer verb = message (suppressProtection ∷ verbCode verb ∷ [])
@@ -156,8 +171,13 @@ obeyed v (Facilities facility) h =
     saying (withFrame v (withReceived f received)) (message (ownMap facility) ∷ [])
 -- 5
 obeyed v MoveCursor h = quiet (withCursor v (limited (v .frame) (placeIn h)))
+-- 6, 7
+obeyed v SkipToLine h = quiet (withCursor v (skippedToLine (v .frame) (parameter h 0)))
+obeyed v SkipToChar h = quiet (withCursor v (skippedToChar (v .frame) (parameter h 0)))
 -- 8, 9, 10, 11, 12, 19
 obeyed v (Move to) h = quiet (sentTo v to)
+-- 13, 14
+obeyed v (LineShift s) h = lineShifting v s
 -- 15, 16
 obeyed v (CharShift s) h = shifting v s
 -- 17: answer 18 x y

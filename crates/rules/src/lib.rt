@@ -128,7 +128,12 @@ pub enum Command {
     Facilities(Facility),
     // to the place that its parameters name
     MoveCursor,
+    // to the line, or the character position, that its parameter names, the screen being a torus
+    SkipToLine,
+    SkipToChar,
     Move(Destination),
+    // line insert and line delete
+    LineShift(Shift),
     // char insert and char delete
     CharShift(Shift),
     ReadCursor,

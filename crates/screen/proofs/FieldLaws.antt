@@ -4,15 +4,15 @@ use mathlib.Core.Bool.{Bool, true, false, not, and-false}
 use mathlib.Core.List.{List}
 use Prim.Native.Nat.{ℕ, zero, suc, _+_, _-_, _≤_, _<_, min}
 use native.Mathlib.Omega.{arith}
-use borrow.Author.Tests.{eqb-true, eq-eqb, ne-eqb, not-true, not-false}
+use borrow.Author.Tests.{eqb-true, eq-eqb, ne-eqb, lt-ltb, le-ltb, not-true, not-false}
 use lib.Dec.{eqb}
 use lib.ListN.{length, List·getD-eq-default}
 use Rattle.screen.specs.Words.{firstOf}
-use Rattle.screen.specs.Attributes.{attributeAt, protectedAt}
-use Rattle.screen.specs.Fields.{Run, Field, startsAt, opensAt, firstFrom, fieldStart, fieldEnd, spanEnd}
+use Rattle.screen.specs.Attributes.{attributeAt, protectedAt, guardedAt}
+use Rattle.screen.specs.Fields.{Run, Field, startsAt, opensAt, firstFrom, someFrom, fieldStart, fieldEnd, spanEnd}
 use Rattle.screen.specs.Scans.{nextOpen}
 use Rattle.words.proofs.Laws.{less-or-not, true-or-false, not-both, and-right}
-use Rattle.screen.proofs.WordLaws.{first-passes, last-passes, first-past, last-past, first-above, first-end, first-below, last-below}
+use Rattle.screen.proofs.WordLaws.{first-hit, first-skips, first-passes, last-passes, first-past, last-past, first-above, first-end, first-below, last-below}
 
 module _ (attrs : List ℕ) where
   -- ---- protection
@@ -147,6 +147,16 @@ module _ (attrs : List ℕ) where
   pub field-open : (i j : ℕ) → protectedAt attrs i ≡ false → fieldStart attrs i ≤ j → j < fieldEnd attrs i → protectedAt attrs j ≡ false
   field-open i j u lo hi = protected-as j i (field-equal i j (open-within i u) lo hi) ∙ u
 
+  -- what is guarded is guarded as a whole: from a cell that is not, a scan for one that is goes past the rest of its field
+  pub first-past-field : (suppressed : Bool) (none i : ℕ) → i < length attrs → guardedAt suppressed attrs i ≡ false
+      → firstFrom (guardedAt suppressed attrs) attrs i none ≡ firstFrom (guardedAt suppressed attrs) attrs (fieldEnd attrs i) none
+  first-past-field suppressed none i h g =
+      let lo = end-gt i h in
+      let e : i + (fieldEnd attrs i - i) ≡ fieldEnd attrs i = omega arith in
+      rw e at
+      (first-skips (guardedAt suppressed attrs) none (fieldEnd attrs i - i) i (length attrs) (omega (arith, end-le i))
+      (λ j a b. rw (protected-as j i (rest-equal i j a (omega arith))) g))
+
   -- an unprotected field starts with an unprotected cell
   pub opens-unprotected : (i : ℕ) → opensAt attrs i ≡ true → protectedAt attrs i ≡ false
   unfolding opensAt
@@ -177,3 +187,12 @@ module _ (attrs : List ℕ) where
   pub nextOpen-lt : (suppressed : Bool) (cursor : ℕ) → cursor < length attrs → nextOpen suppressed attrs cursor < length attrs
   unfolding nextOpen
   nextOpen-lt suppressed cursor h = first-below _ cursor (cursor + 1) (length attrs - (cursor + 1)) (length attrs) (omega arith) h
+
+-- whether some cell passes a test, by a cell that a scan has come to
+module _ (test : ℕ → Bool) (attrs : List ℕ) (i j : ℕ)
+    (e : firstFrom test attrs i (length attrs) ≡ firstFrom test attrs j (length attrs)) where
+  pub some-here : j < length attrs → test j ≡ true → someFrom test attrs i ≡ true
+  some-here h t = rw (e, first-hit test (length attrs) j (length attrs) h t) (lt-ltb j (length attrs) h)
+
+  pub some-nowhere : length attrs ≤ j → someFrom test attrs i ≡ false
+  some-nowhere h = rw (e, first-end test (length attrs) j (length attrs) h) (le-ltb (length attrs) (length attrs) (omega arith))

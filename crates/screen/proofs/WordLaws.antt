@@ -5,6 +5,8 @@ use Prim.Native.Nat.{ℕ, zero, suc, _+_, _-_, _≤_, _<_, min}
 use native.Mathlib.Nat.{add-zero, zero-add, add-suc, suc-add}
 use native.Mathlib.Numerals.{add-one}
 use native.Mathlib.Omega.{arith}
+use borrow.Author.Tests.{ltb-false}
+use lib.Dec.{ltb}
 use Rattle.words.specs.Words.{if_then_else_}
 use Rattle.words.proofs.Laws.{either, true-or-false, less-or-not}
 use Rattle.screen.specs.Words.{firstOf, lastOf}
@@ -98,6 +100,10 @@ module _ (test : ℕ → Bool) (none : ℕ) where
   last-past (suc n) k q h =
       either (λ o. o < k → test k ≡ false) (test n) (λ e q. absurd (omega arith))
       (λ e q. less-or-not k n (λ l. last-past n k q l) (λ l. let s : k ≡ n = omega arith in rw s e)) q
+
+  -- where the first that passes is none of them, none passes
+  pub none-passes : (i n k : ℕ) → ltb (firstOf test none i n) none ≡ false → none ≤ i + n → i ≤ k → k < none → test k ≡ false
+  none-passes i n k e b lo hi = first-past i n k b lo (omega (arith, ltb-false (firstOf test none i n) none e))
 
   -- and it answers nothing below its start
   pub first-above : (i n b : ℕ) → b ≤ i → b ≤ none → b ≤ firstOf test none i n

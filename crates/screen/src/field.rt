@@ -1,6 +1,8 @@
 // Fields, the longest runs of equal attribute bytes, and the edit span.
 ghost use mathlib.Core.Path.{_≡_};
-ghost use Rattle.screen.specs.Fields.{fieldStart, fieldEnd, spanEnd};
+ghost use Rattle.screen.specs.Attributes.{guardedAt};
+ghost use Rattle.screen.specs.Fields.{someFrom, fieldStart, fieldEnd, spanEnd};
+use crate::attribute::is_guarded;
 use crate::number::least;
 use crate::scan::Target;
 use crate::scan::first;
@@ -37,4 +39,19 @@ pub fn span_end(suppressed: bool, attrs: &[u8], cell: usize, stop: usize) -> usi
     }
     let end = field_end(attrs, cell);
     least(end, stop)
+}
+
+// Is some cell from `from` on guarded? A field is guarded as a whole, so one look at each is enough.
+pub fn some_guarded(suppressed: bool, attrs: &[u8], from: usize) -> bool
+    ensures { λ r. ⌜ r ≡ someFrom (guardedAt suppressed (now (attrs .entry))) (now (attrs .entry)) from ⌝ }
+{
+    let mut cell = from;
+    while cell < attrs.len() {
+        let guarded = is_guarded(suppressed, attrs, cell);
+        if guarded {
+            return true;
+        }
+        cell = field_end(attrs, cell);
+    }
+    false
 }

@@ -81,6 +81,9 @@ impl Cover {
     /// A command that is about to be executed.
     pub fn command(&mut self, code: u8, parameters: &[u8], screen: &Screen) {
         match code {
+            code::SKIP_TO_LINE => self.skip_to_line(parameters, screen),
+            code::SKIP_TO_CHAR => self.skip_to_char(parameters, screen),
+            code::LINE_INSERT | code::LINE_DELETE => self.lines(screen),
             code::UP..=code::RIGHT => self.step(code, screen),
             code::HOME => self.home(screen),
             code::CHAR_INSERT | code::CHAR_DELETE => self.shift(screen),

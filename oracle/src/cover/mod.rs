@@ -3,6 +3,7 @@
 mod classify;
 mod facilities;
 mod line;
+mod lines;
 mod message;
 mod pad;
 mod situation;

@@ -1,6 +1,6 @@
 //! What both sides have agreed on.
 
-use super::{class, Bit, Map, MAPS, OWN};
+use super::{class, own, Bit, Map, MAPS};
 use crate::command::code;
 use crate::variant::Variant;
 
@@ -57,7 +57,7 @@ impl Agreed {
 
 /// Bit by bit, the intensity bits too.
 fn intersection(place: usize, received: u8, variant: Variant) -> u8 {
-    let own = OWN[place];
+    let own = own(place, variant);
     let both = received & own;
     match variant {
         Variant::MapsReceived => received,

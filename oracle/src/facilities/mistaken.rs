@@ -26,6 +26,30 @@ const ROWS: &[(Variant, &[(u8, Bit)])] = &[
         Variant::Bit17Incremental,
         &[(code::READ_CURSOR, INCREMENTAL)],
     ),
+    (
+        Variant::Bit6Incremental,
+        &[
+            (code::SKIP_TO_LINE, INCREMENTAL),
+            (code::SKIP_TO_CHAR, INCREMENTAL),
+        ],
+    ),
+    (Variant::Bit6Positive, &[(code::SKIP_TO_LINE, POSITIVE)]),
+    (
+        Variant::Bit8Toroidal,
+        &[(code::UP, TOROIDAL), (code::DOWN, TOROIDAL)],
+    ),
+    (
+        Variant::Bit13Chars,
+        &[(code::LINE_INSERT, CHARS), (code::LINE_DELETE, CHARS)],
+    ),
+    (
+        Variant::Bit13ReadCursor,
+        &[
+            (code::LINE_INSERT, READ_CURSOR),
+            (code::LINE_DELETE, READ_CURSOR),
+        ],
+    ),
+    (Variant::Bit14Chars, &[(code::LINE_DELETE, CHARS)]),
     (Variant::Bit17Lines, &[(code::READ_CURSOR, LINES)]),
     (
         Variant::Bit15BackTab,

@@ -22,7 +22,15 @@ pub enum Map {
 pub const MAPS: usize = 5;
 
 /// The terminal's own maps.
-pub const OWN: [u8; MAPS] = [54, 0b1_1111, 63, 144, 121];
+pub const OWN: [u8; MAPS] = [126, 0b1_1111, 63, 144, 121];
+
+/// One of them, as a variant has it.
+pub fn own(place: usize, variant: Variant) -> u8 {
+    match (variant, place) {
+        (Variant::EditMapOld, 0) => 54,
+        _ => OWN[place],
+    }
+}
 
 /// A facility: a map byte, and a bit of it numbered from the right.
 #[derive(Clone, Copy, Debug, PartialEq, Eq)]
@@ -38,6 +46,7 @@ impl Bit {
 pub mod bit {
     use super::{Bit, Map};
 
+    pub const TOROIDAL: Bit = Bit(Map::Edit, 6);
     pub const INCREMENTAL: Bit = Bit(Map::Edit, 5);
     pub const READ_CURSOR: Bit = Bit(Map::Edit, 4);
     pub const LINES: Bit = Bit(Map::Edit, 3);
@@ -67,11 +76,15 @@ pub mod bit {
 }
 
 /// Which bit governs which command. Those that are not here have none.
-const GOVERNED: [(u8, Bit); 22] = [
+const GOVERNED: [(u8, Bit); 26] = [
+    (code::SKIP_TO_LINE, bit::TOROIDAL),
+    (code::SKIP_TO_CHAR, bit::TOROIDAL),
     (code::UP, bit::INCREMENTAL),
     (code::DOWN, bit::INCREMENTAL),
     (code::LEFT, bit::INCREMENTAL),
     (code::RIGHT, bit::INCREMENTAL),
+    (code::LINE_INSERT, bit::LINES),
+    (code::LINE_DELETE, bit::LINES),
     (code::CHAR_INSERT, bit::CHARS),
     (code::CHAR_DELETE, bit::CHARS),
     (code::READ_CURSOR, bit::READ_CURSOR),

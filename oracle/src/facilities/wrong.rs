@@ -18,6 +18,8 @@ impl Desk<'_> {
             (Variant::NeverError1, ..) => true,
             (Variant::AnyBitWillDo, ..) => self.agreed.0[bit.0 as usize] != 0,
             (Variant::UnprotectedFree, ..) => bit == bit::PROTECTION,
+            (Variant::SkipsFree, ..) => bit == bit::TOROIDAL,
+            (Variant::LinesFree, ..) => bit == bit::LINES,
             (Variant::SuppressDontFree, code::SUPPRESS_PROTECTION, [DONT]) => true,
             (Variant::SuppressWillFree, code::SUPPRESS_PROTECTION, [WILL | WONT]) => true,
             _ => false,

@@ -31,7 +31,7 @@ pub fn subnegotiation(bytes: &mut Vec<u8>, option: u8, inside: &[u8]) {
 impl Generator {
     /// One thing that a host might send.
     pub fn atom(&mut self, bytes: &mut Vec<u8>) {
-        const WEIGHTS: [usize; 15] = [40, 14, 10, 6, 7, 3, 14, 5, 2, 1, 6, 4, 4, 5, 2];
+        const WEIGHTS: [usize; 16] = [40, 14, 10, 6, 7, 3, 14, 5, 2, 1, 6, 4, 4, 6, 4, 2];
         match self.rng.weighted(&WEIGHTS) {
             0 => self.command(bytes),
             1 => self.move_cursor(bytes),
@@ -47,6 +47,7 @@ impl Generator {
             11 => self.thrown_away(bytes),
             12 => self.suppress(bytes),
             13 => self.narrow(bytes),
+            14 => self.whole_lines(bytes),
             _ => self.start_again(bytes),
         }
     }
@@ -87,7 +88,7 @@ impl Generator {
     fn known_code(&mut self) -> u8 {
         loop {
             let code = match self.rng.below(4) {
-                0 => self.rng.pick(&[12, 12, 15, 16, 19, 23, 26, 37]),
+                0 => self.rng.pick(&[6, 7, 7, 12, 12, 15, 16, 19, 23, 26, 37]),
                 _ => self.rng.within(1, 41) as u8,
             };
             let spared = code == code::ERASE_SCREEN && !self.rng.once_in(4);

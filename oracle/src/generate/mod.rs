@@ -4,6 +4,7 @@
 mod bytes;
 mod facilities;
 mod keys;
+mod lines;
 mod opening;
 mod pad;
 mod parameters;

@@ -12,6 +12,8 @@ impl Generator {
                 class(code).map(|place| self.map(place)).collect()
             }
             code::MOVE_CURSOR => self.position_parameters(),
+            code::SKIP_TO_LINE => vec![self.skip_parameter(self.size.n)],
+            code::SKIP_TO_CHAR => vec![self.skip_parameter(self.size.m)],
             code::FORMAT_DATA => self.format_parameters(),
             code::REPEAT => self.repeat_parameters(),
             code::SUPPRESS_PROTECTION => vec![self.suppress_parameter()],
@@ -33,6 +35,19 @@ impl Generator {
             y = self.rng.pick(&[self.size.n, self.size.n + 1, 255]);
         }
         vec![x, y]
+    }
+
+    /// On the screen or past it, once or many times round.
+    fn skip_parameter(&mut self, length: u8) -> u8 {
+        let rounds = (255 / length).min(4);
+        match self.rng.below(6) {
+            0 => length - 1,
+            1 => length,
+            2 => self.rng.pick(&[0, 1, length + 1, 254, 255]),
+            3 => length * self.rng.within(1, rounds.into()) as u8,
+            4 => self.rng.byte(),
+            _ => self.rng.below(length.into()) as u8,
+        }
     }
 
     fn format_parameters(&mut self) -> Vec<u8> {

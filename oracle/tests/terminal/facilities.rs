@@ -6,11 +6,15 @@ const DO: u8 = 253;
 const DONT: u8 = 254;
 const IAC: u8 = 255;
 
-const ALL: [u8; 5] = [54, 31, 63, 144, 121];
+const ALL: [u8; 5] = [126, 31, 63, 144, 121];
 
 /// Each governed command, its facility command's code, its place among the
 /// five maps, and its bit's value there.
-const GOVERNED: [(u8, u8, usize, u8); 22] = [
+const GOVERNED: [(u8, u8, usize, u8); 26] = [
+    (6, 1, 0, 64),
+    (7, 1, 0, 64),
+    (13, 1, 0, 8),
+    (14, 1, 0, 8),
     (8, 1, 0, 32),
     (9, 1, 0, 32),
     (10, 1, 0, 32),
@@ -44,6 +48,7 @@ fn fresh() -> Bench {
 
 fn inside(code: u8) -> Vec<u8> {
     match code {
+        6 | 7 => vec![code, 1],
         37 => vec![37, 1, b'x'],
         38 => vec![38, 251],
         _ => vec![code],
@@ -83,7 +88,7 @@ fn other_commands_need_nothing() {
     assert_eq!(screen.attrs[0], 8);
     let sent = [subcommand(&[28, 0, 0]), b"      ".to_vec()].concat();
     assert_eq!(screen.command(&[20]), sent);
-    for code in [0, 6, 7, 13, 14, 18, 27, 28, 39, 40, 42] {
+    for code in [0, 18, 27, 28, 39, 40, 42] {
         assert_eq!(screen.command(&[code]), error(code, 2));
     }
 }

@@ -2,6 +2,7 @@
 
 mod bench;
 mod facilities;
+mod lines;
 mod pad_echo;
 mod pad_line;
 mod pad_messages;

@@ -25,7 +25,7 @@ abbrev pub changesOf : Edit → List Change
 changesOf Nothing = []
 changesOf (Put cell c) = put cell c ∷ []
 changesOf (Erase suppressed from end) = erase suppressed from end ∷ []
-changesOf (Shift s from end) = shift s from end 1 ∷ []
+changesOf (Shift s from end by) = shift s from end by ∷ []
 changesOf (Repeat n c) = []
 
 -- not REPEAT: these are all it does

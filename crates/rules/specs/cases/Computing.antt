@@ -21,7 +21,17 @@ use Rattle.rules.specs.Facility.{weight, ownMap, receiving, agreed}
 use Rattle.rules.specs.Refusal.{verdict, sizeTests, stateTests}
 use Rattle.rules.specs.Command.{rows, rowIn, meaning, reaches, valueFault, faultOf}
 use Rattle.rules.specs.Effect.{changed, changedAll, spelled, spelledAll}
-use Rattle.rules.specs.Cursor.{nextCell, homeCell, backTabCell, firstFieldCell, nextFieldCell, previousOpenCell, destination}
+use Rattle.rules.specs.Cursor.{
+  linesDown,
+  skippedToChar,
+  nextCell,
+  homeCell,
+  backTabCell,
+  firstFieldCell,
+  nextFieldCell,
+  previousOpenCell,
+  destination,
+}
 use Rattle.rules.specs.Telnet.{
   holding,
   heldAfter,
@@ -49,8 +59,8 @@ unfolding bit parameters lines messages responses keys echoes printsLf reader do
     protectedAt startsAt opensAt fieldStart fieldEnd spanEnd
     nextOpen deleted inserted shifted onPart erased formatted takes allPrintable padOk sessionOk weight ownMap receiving
     agreed verdict sizeTests stateTests rows rowIn
-    meaning reaches valueFault faultOf changed changedAll spelled spelledAll nextCell homeCell backTabCell firstFieldCell
-    nextFieldCell previousOpenCell destination holding heldAfter crAfter optionOf isOn accepts turned switchedOn switchedOff
+    meaning reaches valueFault faultOf changed changedAll spelled spelledAll linesDown skippedToChar
+    nextCell homeCell backTabCell firstFieldCell nextFieldCell previousOpenCell destination holding heldAfter crAfter optionOf isOn accepts turned switchedOn switchedOff
     negotiated hostCharacter hostCharacters
     hostData hostText empties padAfter response lineTests padTyped typedTo passes fieldTexts
     transmitted erasure suppressing obeyed judged looked subcommand keyOf needsOf keyTests pressed happening hostByte running unless

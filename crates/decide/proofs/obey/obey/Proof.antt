@@ -15,50 +15,66 @@ move-cursor : tie.Need-returns-2
 unfolding obeyed
 move-cursor c = rw (c .before .before .enum-told .given .1, c .quiet .ensures, c .before .limited .ensures) (record { meaning = refl; sendable = tt })
 
-move : tie.Need-returns-3
+skip-to-line : tie.Need-returns-3
 unfolding obeyed
-move c = rw (c .before .before .before .command2 .given .1, c .quiet2 .ensures, c .before .sent-to .ensures) (record { meaning = refl; sendable = tt })
+skip-to-line c = rw (c .before .before .before .enum-told2 .given .1, c .quiet2 .ensures, c .before .skipped-to-line .ensures, c .before .before .first-parameter .ensures)
+    (record { meaning = refl; sendable = tt })
 
-char-shift : tie.Need-returns-4
+skip-to-char : tie.Need-returns-4
 unfolding obeyed
-char-shift c = rw (c .before .before .command3 .given .1) (c .char-shift .ensures)
+skip-to-char c = rw (c .before .before .before .enum-told3 .given .1, c .quiet3 .ensures, c .before .skipped-to-char .ensures, c .before .before .first-parameter2 .ensures)
+    (record { meaning = refl; sendable = tt })
 
-read-cursor : tie.Need-returns-5
+move : tie.Need-returns-5
 unfolding obeyed
-read-cursor c = rw (c .before .enum-told2 .given .1, c .read-cursor .ensures) (record { meaning = refl; sendable = tt })
+move c = rw (c .before .before .before .command2 .given .1, c .quiet4 .ensures, c .before .sent-to .ensures) (record { meaning = refl; sendable = tt })
 
-transmit : tie.Need-returns-6
+line-shift : tie.Need-returns-6
 unfolding obeyed
-transmit c = rw (c .before .before .command4 .given .1) (c .transmit .ensures)
+line-shift c = rw (c .before .before .command3 .given .1) (c .line-shift .ensures)
 
-erase : tie.Need-returns-7
+char-shift : tie.Need-returns-7
 unfolding obeyed
-erase c = rw (c .before .before .command5 .given .1) (c .erase .ensures)
+char-shift c = rw (c .before .before .command4 .given .1) (c .char-shift .ensures)
 
-format-data : tie.Need-returns-8
+read-cursor : tie.Need-returns-8
 unfolding obeyed
-format-data c = rw (c .before .enum-told3 .given .1) (c .format-data .ensures _)
+read-cursor c = rw (c .before .enum-told4 .given .1, c .read-cursor .ensures) (record { meaning = refl; sendable = tt })
 
-repeat : tie.Need-returns-9
+transmit : tie.Need-returns-9
 unfolding obeyed
-repeat c = rw (c .before .before .before .enum-told4 .given .1, c .editing .ensures, c .before .second-parameter .ensures, c .before .before .first-parameter .ensures) repeated
+transmit c = rw (c .before .before .command5 .given .1) (c .transmit .ensures)
 
-suppress-protection : tie.Need-returns-10
+erase : tie.Need-returns-10
 unfolding obeyed
-suppress-protection c = rw (c .before .before .enum-told5 .given .1, ← c .before .first-parameter2 .ensures) (c .suppress .ensures _)
+erase c = rw (c .before .before .command6 .given .1) (c .erase .ensures)
 
-error : tie.Need-returns-11
+format-data : tie.Need-returns-11
 unfolding obeyed
-error c = rw (c .before .enum-told6 .given .1, c .quiet3 .ensures) (record { meaning = refl; sendable = tt })
+format-data c = rw (c .before .enum-told5 .given .1) (c .format-data .ensures _)
+
+repeat : tie.Need-returns-12
+unfolding obeyed
+repeat c = rw (c .before .before .before .enum-told6 .given .1, c .editing .ensures, c .before .second-parameter .ensures, c .before .before .first-parameter3 .ensures) repeated
+
+suppress-protection : tie.Need-returns-13
+unfolding obeyed
+suppress-protection c = rw (c .before .before .enum-told7 .given .1, ← c .before .first-parameter4 .ensures) (c .suppress .ensures _)
+
+error : tie.Need-returns-14
+unfolding obeyed
+error c = rw (c .before .enum-told8 .given .1, c .quiet5 .ensures) (record { meaning = refl; sendable = tt })
 
 pub obey-spec : {M : Type 1} → statement M
 obey-spec =
     tie.close
     (tie.spec
     (λ c. search needs) (λ c κs. search needs) (λ c. search needs) (λ c κs. search needs) (λ c κs. search needs)
-    (λ c. search needs) (λ c κs. search needs) (λ c κs. search needs) (λ c. search needs) (λ c κs. search needs)
+    (λ c. search needs) (λ c κs. search needs) (λ c κs. search needs) (λ c κs. search needs) (λ c. search needs)
+    (λ c κs. search needs) (λ c κs. search needs) (λ c κs. search needs) (λ c. search needs) (λ c κs. search needs)
+    (λ c κs. search needs) (λ c. search needs) (λ c κs. search needs) (λ c. search needs) (λ c κs. search needs)
     (λ c. search needs) (λ c κs. search needs) (λ c. search needs) (λ c κs. search needs) (λ c. search needs)
     (λ c κs. search needs) (λ c. search needs) (λ c κs. search needs) (λ c. search needs) (λ c κs. search needs)
     (λ c κs. search needs) (λ c κs. search needs) (λ c. search needs) (λ c κs. search needs) (λ c κs. search needs)
-    (λ c. search needs) (λ c κs. search needs) facilities move-cursor move char-shift read-cursor transmit erase format-data
-    repeat suppress-protection error)
+    (λ c. search needs) (λ c κs. search needs)
+    facilities move-cursor skip-to-line skip-to-char move line-shift char-shift read-cursor transmit erase format-data repeat suppress-protection error)

@@ -139,7 +139,7 @@ fn answers_tell_of_option_30() {
 const MAPS: &[(&str, &str)] = &[
     ("-", "0000000000"),
     ("fffa140104fff0", "0400000000"),
-    ("fffa1401fffffff0", "3600000000"),
+    ("fffa1401fffffff0", "7e00000000"),
     ("fffa140104fff0fffa140110fff0", "1000000000"),
     ("fffa140104fff0fffa1401fff0", "0400000000"),
     ("fffa140104fff0fffa14010202fff0", "0400000000"),
@@ -148,7 +148,7 @@ const MAPS: &[(&str, &str)] = &[
     ("fffa14049079fff0fffd14", "0000009079"),
     ("fffa14049079fff0fffe14", "0000000000"),
     ("fffa14049079fff0fffe14fffd14", "0000000000"),
-    ("fffa14018afff0", "0200000000"),
+    ("fffa14018afff0", "0a00000000"),
 ];
 
 #[test]

@@ -35,7 +35,7 @@ impl Dosing<'_> {
         self.say("1. The host paints the form and protects all of it but what is in brackets.")?;
         self.desk.host(&form::negotiate())?;
         let agreed = format!("{:x?}", self.desk.session.agreed_maps());
-        expect("agreed", &*agreed, "[36, 1f, 3f, 90, 79]")?;
+        expect("agreed", &*agreed, "[7e, 1f, 3f, 90, 79]")?;
         self.desk.host(&form::paint())?;
         self.teller.screen(&self.desk)?;
         self.painted = self.desk.protected();

@@ -1,3 +1,4 @@
 pub mod HeldLaws
+pub mod ListLaws
 pub mod RefusalLaws
 pub mod FaultLaws

@@ -5,4 +5,5 @@ pub mod facility;
 pub mod fault;
 pub mod frame;
 pub mod held;
+mod meaning;
 pub mod number;

@@ -4,8 +4,9 @@
  *     UNIT mg
  *
  * with the weight "70 " and the unit "mg " open and all else protected; before that it sends its
- * facility maps. The operator deletes a character of the weight, and sends the form. Status 1
- * where a call answers something else than it should. */
+ * facility maps. The operator deletes a character of the weight, and sends the form. Then the host
+ * asks for the field that was touched alone. Status 1 where a call answers something else than it
+ * should. */
 #include <stdio.h>
 #include <stdlib.h>
 
@@ -17,6 +18,7 @@
 
 static uint8_t chars[CELLS];
 static uint8_t attrs[CELLS];
+static uint8_t marks[CELLS];
 static uint8_t session[DET_SESSION_LENGTH];
 static uint8_t reply[DET_REPLY_ROOM(WIDTH, HEIGHT)];
 
@@ -25,7 +27,7 @@ static const uint8_t negotiate[] = {
     255, 250, 20, 1, 0x7e, 255, 240,          /* what the host can do: EDIT FACILITIES */
     255, 250, 20, 2, 0x1f, 255, 240,          /* ERASE FACILITIES */
     255, 250, 20, 3, 0x3f, 255, 240,          /* TRANSMIT FACILITIES */
-    255, 250, 20, 4, 0x90, 0x79, 255, 240     /* FORMAT FACILITIES, two bytes */
+    255, 250, 20, 4, 0xd0, 0x79, 255, 240     /* FORMAT FACILITIES, two bytes */
 };
 
 static const uint8_t paint[] = {
@@ -36,6 +38,10 @@ static const uint8_t paint[] = {
     255, 250, 20, 5, 6, 0, 255, 240,                    /* MOVE CURSOR to column 6, line 0 */
     255, 250, 20, 36, DET_PROTECTED, 0, 0, 7, 255, 240, /* FORMAT DATA: 7 cells */
     255, 250, 20, 5, 3, 0, 255, 240                     /* MOVE CURSOR to column 3, line 0 */
+};
+
+static const uint8_t ask_for_touched[] = {
+    255, 250, 20, 27, 255, 240                          /* TRANSMIT MODIFIED */
 };
 
 static void expect(const char *what, size_t expected, size_t answer)
@@ -82,7 +88,8 @@ static void host(const uint8_t *input, size_t length)
         size_t taken, written;
         expect("det_host", DET_DONE,
                det_host(session, sizeof session, input, length, chars, sizeof chars,
-                        attrs, sizeof attrs, reply, sizeof reply, &taken, &written));
+                        attrs, sizeof attrs, marks, sizeof marks, reply, sizeof reply,
+                        &taken, &written));
         print_reply(written);
         input += taken;
         length -= taken;
@@ -94,7 +101,8 @@ static void key(uint32_t code)
     size_t taken, written;
     expect("det_key", DET_DONE,
            det_key(session, sizeof session, code, chars, sizeof chars,
-                   attrs, sizeof attrs, reply, sizeof reply, &taken, &written));
+                   attrs, sizeof attrs, marks, sizeof marks, reply, sizeof reply,
+                   &taken, &written));
     expect("keys taken", 1, taken);
     print_reply(written);
 }
@@ -103,7 +111,7 @@ int main(void)
 {
     expect("det_open", DET_DONE,
            det_open(WIDTH, HEIGHT, chars, sizeof chars, attrs, sizeof attrs,
-                    session, sizeof session));
+                    marks, sizeof marks, session, sizeof session));
     host(negotiate, sizeof negotiate);
     print_agreed();
     host(paint, sizeof paint);
@@ -112,6 +120,8 @@ int main(void)
     print_screen("after the delete key in the weight");
     printf("the send key\n");
     key(DET_KEY_SEND);
+    printf("asked for what was touched\n");
+    host(ask_for_touched, sizeof ask_for_touched);
     expect("errors in writing this", 0, (size_t)(fflush(stdout) != 0));
     return 0;
 }

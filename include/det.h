@@ -23,6 +23,7 @@
  *   chars    M * N bytes: the characters of the screen, each 32 to 126. Column x of line y, both
  *            counted from 0, is byte y * M + x.
  *   attrs    M * N bytes: the attributes of those cells, in the same order (DET_PROTECTION).
+ *   marks    M * N bytes: 1 for each of those cells that was touched, else 0 (Marks, below).
  *   session  DET_SESSION_LENGTH bytes: everything else about the terminal (DET_AT_...). Bytes of
  *            another length or of another version of the library are no session.
  *   input    bytes from the host, any number of them.
@@ -32,8 +33,8 @@
  *            places for two counts, which every call sets: how many bytes of the input, or keys,
  *            were taken, and how many bytes of the reply were written.
  *
- * Between calls the caller keeps chars, attrs and session. It may copy, store and read them; what
- * it changes in them is checked by the next call.
+ * Between calls the caller keeps chars, attrs, marks and session. It may copy, store and read them;
+ * what it changes in them is checked by the next call.
  *
  * Every pointer must be valid for its length, and not null even where the length is 0; taken and
  * written must point to a size_t each. No two things given to one call may overlap. That is all
@@ -46,7 +47,7 @@
  * Each function returns DET_DONE or the number of a refusal (DET_SIZE and so on). Where more than
  * one refusal holds, the first in this order is returned:
  *
- *   255, 1, 2, 3, 4, 5, 9, 8, 6, 7, 10
+ *   255, 1, 2, 3, 4, 11, 5, 9, 8, 6, 7, 10
  *
  * A refused call changes nothing: not the session, not one byte of a buffer; it sets both counts
  * to 0. (det_open, which makes a session, says below what it leaves.)
@@ -91,15 +92,30 @@
  * Until its bit is agreed, a command draws ERROR 1, the bytes 255 250 20 41 code 1 255 240, and
  * does nothing. Bits are numbered from the right, from 0:
  *
- *   editing        5: commands 8 to 11; 4: 17; 2: 15 and 16; 1: 19
+ *   editing        6: commands 6 and 7; 5: 8 to 11; 4: 17; 3: 13 and 14; 2: 15 and 16; 1: 19
  *   erasing        4: 31; 3: 30; 2: 32; 1: 33; 0: 34
  *   transmitting   4: 22; 3: 23; 2: 24; 1: 25; 0: 26
- *   formatting     first byte, 4: 37; second byte, 6: 38; 5: 21 and 35
+ *   formatting     first byte, 6: 27; 4: 37; second byte, 6: 38; 5: 21 and 35
  *
  * The commands 1 to 5, 12, 20, 29, 36 and 41 need no bit, and no key needs one. A program that
  * embeds the terminal does nothing for this; it can tell what is agreed, as
  *
  *   session[DET_AT_MAPS + DET_MAP_EDIT] & DET_OWN_EDIT
+ *
+ *
+ * Marks
+ *
+ * A host that knows what its form holds need not have all of it sent back. Its command 27, TRANSMIT
+ * MODIFIED, draws only the unprotected fields that have a marked cell, each whole and after its
+ * start; where there is none, it draws nothing.
+ *
+ * What is typed on the screen marks its cell. The shifts, which are the commands 13 to 16 and the
+ * delete key, mark every cell that they write. The cell's character may be the same as before.
+ * Nothing else marks a cell: no text from the host, no echo of the edit line, no REPEAT (37), no
+ * erasing, no formatting.
+ *
+ * det_open and the commands 27, 29 and 35 clear all marks. Nothing else clears one, the send key
+ * neither. A program that embeds the terminal does nothing for them but lend them.
  */
 #ifndef DET_H
 #define DET_H
@@ -112,11 +128,12 @@ extern "C" {
 #endif
 
 /* The largest screen, and the lengths of a session and of the shortest reply buffer for a screen of
- * m columns by n lines: the longest reply that one byte or key can draw fits in it. */
+ * m columns by n lines: the longest reply that one byte or key can draw fits in it. A program does
+ * well to keep m * n at 7,281 or less: then that length fits in 16 bits. */
 #define DET_WIDTH_MOST 132
 #define DET_HEIGHT_MOST 64
 #define DET_SESSION_LENGTH 211
-#define DET_REPLY_ROOM(m, n) ((size_t)7 * (m) * (n) + 2)
+#define DET_REPLY_ROOM(m, n) ((size_t)9 * (m) * (n))
 
 /* The first byte of every session: how the others are laid out. */
 #define DET_SESSION_VERSION 3
@@ -131,7 +148,7 @@ extern "C" {
 enum {
     DET_DONE = 0,        /* the call was done */
     DET_SIZE = 1,        /* M is not 1 to 132, or N is not 1 to 64 */
-    DET_LENGTH = 2,      /* chars or attrs is not M * N bytes long */
+    DET_LENGTH = 2,      /* chars, attrs or marks is not M * N bytes long */
     DET_CHARACTER = 3,   /* a byte of chars is not 32 to 126; never of det_open */
     DET_RANGE = 4,       /* in the session, the cursor is off the screen, the count of held bytes is
                             above 6, option 30 is on with fewer than DET_PAD_CELLS cells, the edit
@@ -144,6 +161,7 @@ enum {
     DET_OFF = 8,         /* the send key or a function key, and option 20 is off */
     DET_NO_MEANING = 9,  /* a key that means nothing */
     DET_LINE_FULL = 10,  /* a key that would wait in the edit line, and the line is full */
+    DET_MARK = 11,       /* a byte of marks is above 1; never of det_open */
     DET_NO_SESSION = 255 /* session is not DET_SESSION_LENGTH bytes long, or its bytes are no
                             session (below) */
 };
@@ -198,7 +216,7 @@ enum {
     DET_OWN_EDIT = 126,
     DET_OWN_ERASE = 31,
     DET_OWN_TRANSMIT = 63,
-    DET_OWN_FORMAT_0 = 144,
+    DET_OWN_FORMAT_0 = 208,
     DET_OWN_FORMAT_1 = 121
 };
 
@@ -244,41 +262,44 @@ enum {
 };
 #define DET_KEY_FUNCTION(k) (127 + (k)) /* sends the number k, which is 1 to 16 */
 
-/* Opens a terminal of width columns by height lines: spaces in chars, zeros in attrs and, whatever
- * was in its place, a new session: cursor at column 0 of line 0, both options off, protection in
- * effect, no facility agreed, nothing half read, nothing in the edit line, the parameters at their
- * start.
+/* Opens a terminal of width columns by height lines: spaces in chars, zeros in attrs and marks and,
+ * whatever was in its place, a new session: cursor at column 0 of line 0, both options off,
+ * protection in effect, no facility agreed, nothing half read, nothing in the edit line, the
+ * parameters at their start.
  *
- * Refused with 1 or 2 it leaves chars and attrs alone and writes such a session of 0 by 0, which
- * the other two calls then refuse with 1. With 255, where the place for the session has another
- * length, it writes nothing at all. */
+ * Refused with 1 or 2 it leaves chars, attrs and marks alone and writes such a session of 0 by 0,
+ * which the other two calls then refuse with 1. With 255, where the place for the session has
+ * another length, it writes nothing at all. */
 uint8_t det_open(size_t width, size_t height,
                  uint8_t *chars, size_t chars_len,
                  uint8_t *attrs, size_t attrs_len,
+                 uint8_t *marks, size_t marks_len,
                  uint8_t *session, size_t session_len);
 
 /* Takes bytes from the host, from the front of the input, as long as there are some and the reply
- * has DET_REPLY_ROOM(M, N) bytes left. It changes the session, chars and attrs as they say, and
- * writes what they draw into reply. Commands may be cut anywhere between two calls.
+ * has DET_REPLY_ROOM(M, N) bytes left. It changes the session, chars, attrs and marks as they say,
+ * and writes what they draw into reply. Commands may be cut anywhere between two calls.
  *
  * *taken may be less than input_len: send the *written bytes of the reply to the host, then call
  * again with the rest of the input. A call that is done takes at least one byte if it is given one,
- * so this comes to an end. Refusals: 255, 1, 2, 3, 4, 5. */
+ * so this comes to an end. Refusals: 255, 1, 2, 3, 4, 11, 5. */
 uint8_t det_host(uint8_t *session, size_t session_len,
                  const uint8_t *input, size_t input_len,
                  uint8_t *chars, size_t chars_len,
                  uint8_t *attrs, size_t attrs_len,
+                 uint8_t *marks, size_t marks_len,
                  uint8_t *reply, size_t reply_len,
                  size_t *taken, size_t *written);
 
-/* Takes one key of the operator; *taken is then 1. It changes the session and chars as the key
- * says, never attrs, and writes what is to be sent into reply. What is half read from the host
+/* Takes one key of the operator; *taken is then 1. It changes the session, chars and marks as the
+ * key says, never attrs, and writes what is to be sent into reply. What is half read from the host
  * stays so. Refusals: any of the numbers; for a key that the edit line takes, 10 alone of those
  * after 5. */
 uint8_t det_key(uint8_t *session, size_t session_len,
                 uint32_t key,
                 uint8_t *chars, size_t chars_len,
                 const uint8_t *attrs, size_t attrs_len,
+                uint8_t *marks, size_t marks_len,
                 uint8_t *reply, size_t reply_len,
                 size_t *taken, size_t *written);
 

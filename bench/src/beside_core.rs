@@ -35,7 +35,8 @@ pub fn here(input: &str) -> Result<Beside, String> {
         Job::new(bytes.len(), || ours.take(&bytes)),
         Job::new(bytes.len(), || core.take(&bytes)),
     ]);
-    if ours.chars != core.chars || ours.attrs != core.attrs {
+    let ends = (&ours.chars, &ours.attrs, &ours.marks);
+    if ends != (&core.chars, &core.attrs, &core.marks) {
         return Err(format!("{input}: the Rust core's screen ends otherwise"));
     }
     Ok(Beside {

@@ -93,7 +93,7 @@ fn press(key: u32, ours: &mut Ours) -> Job<'_> {
 fn pass(lent: &Ours) -> Job<'_> {
     Job::new(1, move || {
         let lent = black_box(lent);
-        let buffers = [&lent.chars, &lent.attrs, &lent.reply];
+        let buffers = [&lent.chars, &lent.attrs, &lent.marks, &lent.reply];
         let absent = |buffer: &&Vec<u8>| buffer.iter().all(|byte| *byte != ABSENT);
         assert!(black_box(buffers.iter().all(absent)));
     })

@@ -11,18 +11,22 @@ pub struct Ours {
     pub session: Session,
     pub chars: Vec<u8>,
     pub attrs: Vec<u8>,
+    pub marks: Vec<u8>,
     pub reply: Vec<u8>,
 }
 
 impl Ours {
     /// A new screen, with option 20 on.
     pub fn open(size: Size) -> Ours {
-        let (mut chars, mut attrs) = (vec![0; size.cells()], vec![0; size.cells()]);
-        let session = terminal::open(size.columns, size.lines, &mut chars, &mut attrs);
+        let zeros = || vec![0; size.cells()];
+        let (mut chars, mut attrs, mut marks) = (zeros(), zeros(), zeros());
+        let (columns, lines) = (size.columns, size.lines);
+        let session = terminal::open(columns, lines, &mut chars, &mut attrs, &mut marks);
         let mut ours = Ours {
             session: session.expect("the size is one"),
             chars,
             attrs,
+            marks,
             reply: vec![0; size.room()],
         };
         for bytes in begin() {
@@ -44,17 +48,19 @@ impl Ours {
             session,
             chars,
             attrs,
+            marks,
             reply,
         } = self;
-        let counts = session.host_bytes(input, chars, attrs, reply);
+        let counts = session.host_bytes(input, chars, attrs, marks, reply);
         let taken = counts.expect("the screen is one").taken;
         assert_eq!(taken, input.len(), "host bytes were left");
     }
 
     /// None where the key is refused.
     pub fn key(&mut self, key: u32) -> Option<Counts> {
-        let (chars, attrs, reply) = (&mut self.chars, &self.attrs, &mut self.reply);
-        self.session.key(key, chars, attrs, reply).ok()
+        let (chars, attrs, marks) = (&mut self.chars, &self.attrs, &mut self.marks);
+        let counts = self.session.key(key, chars, attrs, marks, &mut self.reply);
+        counts.ok()
     }
 
     /// Puts the cursor on a cell.

@@ -1,6 +1,6 @@
 //! The oracle's core in Rust, with the buffers that it is lent.
 
-use oracle::terminal::{Lent, Outcome, Terminal};
+use oracle::terminal::{Buffers, Lent, Outcome, Terminal};
 use oracle::variant::Variant;
 use oracle::watch::Unwatched;
 
@@ -11,6 +11,7 @@ pub struct RustCore {
     terminal: Terminal,
     pub chars: Vec<u8>,
     pub attrs: Vec<u8>,
+    pub marks: Vec<u8>,
     reply: Vec<u8>,
 }
 
@@ -21,11 +22,16 @@ impl RustCore {
             terminal: Terminal::new(Variant::None),
             chars: vec![0; size.cells()],
             attrs: vec![0; size.cells()],
+            marks: vec![0; size.cells()],
             reply: vec![0; size.room()],
         };
         let (columns, lines) = (size.columns as u16, size.lines as u16);
-        let (chars, attrs) = (&mut core.chars, &mut core.attrs);
-        let outcome = core.terminal.open(columns, lines, chars, attrs);
+        let buffers = Buffers {
+            chars: &mut core.chars,
+            attrs: &mut core.attrs,
+            marks: &mut core.marks,
+        };
+        let outcome = core.terminal.open(columns, lines, buffers);
         assert_eq!(outcome.refusal, None, "the size is one");
         for bytes in begin() {
             core.take(&bytes);
@@ -42,11 +48,13 @@ impl RustCore {
 
     /// Takes bytes that draw at most one reply.
     pub fn take(&mut self, input: &[u8]) {
-        let lent = Lent {
+        let buffers = Buffers {
             chars: &mut self.chars,
             attrs: &mut self.attrs,
-            reply: &mut self.reply,
+            marks: &mut self.marks,
         };
+        let reply = &mut self.reply;
+        let lent = Lent { buffers, reply };
         let outcome = rust_core_host(&mut self.terminal, lent, input);
         assert_eq!(outcome.taken, input.len(), "host bytes were left");
     }

@@ -114,11 +114,12 @@ pub fn open_if(open: bool) -> u8 {
     }
 }
 
-/// A full screen with these attribute bytes, by cell and last cell, and the
-/// cursor on its first cell.
+/// A full screen with these attribute bytes, by cell and last cell, every cell
+/// marked, and the cursor on its first cell.
 pub fn made(size: Size, attribute: impl Fn(usize, usize) -> u8) -> Ours {
     let mut ours = Ours::open(size);
     ours.chars.fill(b'x');
+    ours.marks.fill(1);
     for (cell, attr) in ours.attrs.iter_mut().enumerate() {
         *attr = attribute(cell, size.cells() - 1);
     }

@@ -16,6 +16,8 @@ extern "C" {
         chars_len: usize,
         attrs: *mut u8,
         attrs_len: usize,
+        marks: *mut u8,
+        marks_len: usize,
         session: *mut u8,
         session_len: usize,
     ) -> u8;
@@ -29,6 +31,8 @@ extern "C" {
         chars_len: usize,
         attrs: *mut u8,
         attrs_len: usize,
+        marks: *mut u8,
+        marks_len: usize,
         reply: *mut u8,
         reply_len: usize,
         taken: *mut usize,
@@ -43,6 +47,8 @@ extern "C" {
         chars_len: usize,
         attrs: *const u8,
         attrs_len: usize,
+        marks: *mut u8,
+        marks_len: usize,
         reply: *mut u8,
         reply_len: usize,
         taken: *mut usize,
@@ -56,6 +62,7 @@ pub fn open(
     height: usize,
     chars: &mut [u8],
     attrs: &mut [u8],
+    marks: &mut [u8],
     session: &mut [u8],
 ) -> u8 {
     // SAFETY: the pointers and lengths are slices', borrowed apart.
@@ -67,6 +74,8 @@ pub fn open(
             chars.len(),
             attrs.as_mut_ptr(),
             attrs.len(),
+            marks.as_mut_ptr(),
+            marks.len(),
             session.as_mut_ptr(),
             session.len(),
         )
@@ -74,11 +83,13 @@ pub fn open(
 }
 
 /// `det_host`.
+#[allow(clippy::too_many_arguments)]
 pub fn host(
     session: &mut [u8],
     input: &[u8],
     chars: &mut [u8],
     attrs: &mut [u8],
+    marks: &mut [u8],
     reply: &mut [u8],
     taken: &mut usize,
     written: &mut usize,
@@ -95,6 +106,8 @@ pub fn host(
             chars.len(),
             attrs.as_mut_ptr(),
             attrs.len(),
+            marks.as_mut_ptr(),
+            marks.len(),
             reply.as_mut_ptr(),
             reply.len(),
             taken,
@@ -104,11 +117,13 @@ pub fn host(
 }
 
 /// `det_key`.
+#[allow(clippy::too_many_arguments)]
 pub fn key(
     session: &mut [u8],
     key: u32,
     chars: &mut [u8],
     attrs: &[u8],
+    marks: &mut [u8],
     reply: &mut [u8],
     taken: &mut usize,
     written: &mut usize,
@@ -123,6 +138,8 @@ pub fn key(
             chars.len(),
             attrs.as_ptr(),
             attrs.len(),
+            marks.as_mut_ptr(),
+            marks.len(),
             reply.as_mut_ptr(),
             reply.len(),
             taken,

@@ -17,10 +17,11 @@ pub enum Refusal {
     Off = 8,
     NoMeaning = 9,
     LineFull = 10,
+    Mark = 11,
 }
 
 impl Refusal {
-    pub const ALL: [Refusal; 10] = [
+    pub const ALL: [Refusal; 11] = [
         Refusal::Size,
         Refusal::Length,
         Refusal::Character,
@@ -31,6 +32,7 @@ impl Refusal {
         Refusal::Off,
         Refusal::NoMeaning,
         Refusal::LineFull,
+        Refusal::Mark,
     ];
 
     pub fn number(self) -> u8 {
@@ -56,6 +58,7 @@ impl Refusal {
             Refusal::Off => "option 20 is off",
             Refusal::NoMeaning => "the key has no meaning",
             Refusal::LineFull => "the edit line is full",
+            Refusal::Mark => "a mark is neither 0 nor 1",
         }
     }
 }

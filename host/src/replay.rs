@@ -9,6 +9,7 @@ use crate::terminal::{self, at, Counts, Reader, Session};
 /// What fills the buffers before a call.
 const LENT_CHAR: u8 = 0x2a;
 const LENT_ATTR: u8 = 0x11;
+const LENT_MARK: u8 = 1;
 const LENT_REPLY: u8 = 0xa5;
 
 type Outcome = Result<Counts, Refusal>;
@@ -19,6 +20,7 @@ pub struct Replay {
     session: Session,
     chars: Vec<u8>,
     attrs: Vec<u8>,
+    marks: Vec<u8>,
     reply: Vec<u8>,
 }
 
@@ -31,9 +33,11 @@ impl Replay {
                 height,
                 chars,
                 attrs,
+                marks,
             } => {
                 self.chars = vec![LENT_CHAR; chars];
                 self.attrs = vec![LENT_ATTR; attrs];
+                self.marks = vec![LENT_MARK; marks];
                 self.open(width, height)
             }
             Line::Host { input, room } => self.host(&input, room),
@@ -49,26 +53,26 @@ impl Replay {
 
     fn open(&mut self, width: usize, height: usize) -> Outcome {
         self.reply.clear();
-        let (session, outcome) =
-            match terminal::open(width, height, &mut self.chars, &mut self.attrs) {
-                Ok(session) => (session, Ok(Counts::default())),
-                Err((refusal, session)) => (session, Err(refusal)),
-            };
+        let (chars, attrs, marks) = (&mut self.chars, &mut self.attrs, &mut self.marks);
+        let (session, outcome) = match terminal::open(width, height, chars, attrs, marks) {
+            Ok(session) => (session, Ok(Counts::default())),
+            Err((refusal, session)) => (session, Err(refusal)),
+        };
         self.session = session;
         outcome
     }
 
     fn host(&mut self, input: &[u8], room: usize) -> Outcome {
         self.reply = vec![LENT_REPLY; room];
-        let (chars, attrs) = (&mut self.chars, &mut self.attrs);
+        let (chars, attrs, marks) = (&mut self.chars, &mut self.attrs, &mut self.marks);
         self.session
-            .host_bytes(input, chars, attrs, &mut self.reply)
+            .host_bytes(input, chars, attrs, marks, &mut self.reply)
     }
 
     fn key(&mut self, key: u32, room: usize) -> Outcome {
         self.reply = vec![LENT_REPLY; room];
-        let (chars, attrs) = (&mut self.chars, &self.attrs);
-        self.session.key(key, chars, attrs, &mut self.reply)
+        let (chars, attrs, marks) = (&mut self.chars, &self.attrs, &mut self.marks);
+        self.session.key(key, chars, attrs, marks, &mut self.reply)
     }
 
     /// The lines that are no calls.
@@ -76,6 +80,7 @@ impl Replay {
         match line {
             Line::Chars(bytes) => self.chars = bytes,
             Line::Attrs(bytes) => self.attrs = bytes,
+            Line::Marks(bytes) => self.marks = bytes,
             Line::Cursor { x, y } => {
                 self.set_byte(at::X, x);
                 self.set_byte(at::Y, y);
@@ -101,7 +106,7 @@ impl Replay {
         };
         let (session, cursor) = (&self.session, self.session.cursor());
         format!(
-            "{answer} {} {} {} {} {} {} {} {} {} {} {} {} {} {} {}",
+            "{answer} {} {} {} {} {} {} {} {} {} {} {} {} {} {} {} {}",
             counts.taken,
             counts.written,
             hex(&self.reply),
@@ -116,7 +121,8 @@ impl Replay {
             u8::from(session.is_pad_on()),
             hex(session.line()),
             hex(session.parameters()),
-            hex(&session.agreed_maps())
+            hex(&session.agreed_maps()),
+            hex(&self.marks)
         )
     }
 

@@ -10,6 +10,7 @@ pub enum Line {
         height: usize,
         chars: usize,
         attrs: usize,
+        marks: usize,
     },
     Host {
         input: Vec<u8>,
@@ -21,6 +22,7 @@ pub enum Line {
     },
     Chars(Vec<u8>),
     Attrs(Vec<u8>),
+    Marks(Vec<u8>),
     Cursor {
         x: u8,
         y: u8,
@@ -47,6 +49,7 @@ impl Line {
                 height: fields.number(MOST_SIZE)?,
                 chars: fields.number(MOST_CELLS)?,
                 attrs: fields.number(MOST_CELLS)?,
+                marks: fields.number(MOST_CELLS)?,
             },
             b"host" => Line::Host {
                 input: fields.bytes(MOST_INPUT)?,
@@ -58,6 +61,7 @@ impl Line {
             },
             b"chars" => Line::Chars(fields.bytes(MOST_CELLS)?),
             b"attrs" => Line::Attrs(fields.bytes(MOST_CELLS)?),
+            b"marks" => Line::Marks(fields.bytes(MOST_CELLS)?),
             b"cursor" => Line::Cursor {
                 x: fields.byte(255)?,
                 y: fields.byte(255)?,

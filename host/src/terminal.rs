@@ -1,16 +1,19 @@
 //! The three operations, safe: a session, and buffers that are lent for one
 //! call.
 //!
+//! Beside its character and its attribute byte each cell has a mark: 1 where it
+//! was touched, else 0. TRANSMIT MODIFIED sends the fields that have one.
+//!
 //! Nothing that is lent can overlap: every buffer that a call may change is a
 //! `&mut` of its own, so a call with one buffer in two places does not compile.
 //!
 //! ```
 //! use host::terminal::{self, reply_room};
 //!
-//! let (mut chars, mut attrs) = ([0; 16], [0; 16]);
-//! let mut session = terminal::open(8, 2, &mut chars, &mut attrs).unwrap();
+//! let (mut chars, mut attrs, mut marks) = ([0; 16], [0; 16], [0; 16]);
+//! let mut session = terminal::open(8, 2, &mut chars, &mut attrs, &mut marks).unwrap();
 //! let mut reply = [0; reply_room(8, 2)];
-//! let counts = session.host_bytes(b"HI", &mut chars, &mut attrs, &mut reply).unwrap();
+//! let counts = session.host_bytes(b"HI", &mut chars, &mut attrs, &mut marks, &mut reply).unwrap();
 //! assert_eq!((counts.taken, counts.written), (2, 0));
 //! assert_eq!(&chars[..3], b"HI ");
 //! ```
@@ -18,10 +21,10 @@
 //! ```compile_fail,E0499
 //! use host::terminal::{self, reply_room};
 //!
-//! let (mut chars, mut attrs) = ([0; 16], [0; 16]);
-//! let mut session = terminal::open(8, 2, &mut chars, &mut attrs).unwrap();
+//! let (mut chars, mut attrs, mut marks) = ([0; 16], [0; 16], [0; 16]);
+//! let mut session = terminal::open(8, 2, &mut chars, &mut attrs, &mut marks).unwrap();
 //! let mut reply = [0; reply_room(8, 2)];
-//! let counts = session.host_bytes(b"HI", &mut chars, &mut chars, &mut reply).unwrap();
+//! let counts = session.host_bytes(b"HI", &mut chars, &mut chars, &mut marks, &mut reply).unwrap();
 //! ```
 
 use crate::raw;
@@ -68,14 +71,15 @@ pub const PARAMETER_COUNT: usize = 28;
 pub const MAP_COUNT: usize = 5;
 
 /// The terminal's own, in that order.
-pub const OWN_MAPS: [u8; MAP_COUNT] = [126, 31, 63, 144, 121];
+pub const OWN_MAPS: [u8; MAP_COUNT] = [126, 31, 63, 208, 121];
 
 const DONE: u8 = 0;
 const NO_SESSION: u8 = 255;
 
-/// The length of the shortest reply buffer for a screen of this size.
+/// The length of the shortest reply buffer for a screen of this size. A program
+/// does well to keep to 7,281 cells: then it fits in 16 bits.
 pub const fn reply_room(width: usize, height: usize) -> usize {
-    7 * width * height + 2
+    9 * width * height
 }
 
 /// What a terminal is besides its screen.
@@ -86,7 +90,7 @@ impl Default for Session {
     /// What a refused [`open`] leaves: 0 by 0, refused with 1 by every call.
     fn default() -> Session {
         let mut session = Session([0; SESSION_LENGTH]);
-        raw::open(0, 0, &mut [], &mut [], &mut session.0);
+        raw::open(0, 0, &mut [], &mut [], &mut [], &mut session.0);
         session
     }
 }
@@ -121,8 +125,8 @@ pub struct Counts {
     pub written: usize,
 }
 
-/// Opens a screen: spaces, attributes 0, a new session. Refused, it changes no
-/// buffer.
+/// Opens a screen: spaces, attributes 0, no cell marked, a new session. Refused,
+/// it changes no buffer.
 // A session is as long where it is opened.
 #[allow(clippy::result_large_err)]
 pub fn open(
@@ -130,9 +134,17 @@ pub fn open(
     height: usize,
     chars: &mut [u8],
     attrs: &mut [u8],
+    marks: &mut [u8],
 ) -> Result<Session, (Refusal, Session)> {
     let mut session = Session([0; SESSION_LENGTH]);
-    match answer(raw::open(width, height, chars, attrs, &mut session.0)) {
+    match answer(raw::open(
+        width,
+        height,
+        chars,
+        attrs,
+        marks,
+        &mut session.0,
+    )) {
         Ok(()) => Ok(session),
         Err(refusal) => Err((refusal, session)),
     }
@@ -149,6 +161,7 @@ impl Session {
             0,
             &mut [],
             &[],
+            &mut [],
             &mut [],
             &mut taken,
             &mut written,
@@ -168,13 +181,14 @@ impl Session {
         input: &[u8],
         chars: &mut [u8],
         attrs: &mut [u8],
+        marks: &mut [u8],
         reply: &mut [u8],
     ) -> Result<Counts, Refusal> {
         let mut counts = Counts::default();
         let Counts { taken, written } = &mut counts;
         let session = &mut self.0;
         answer(raw::host(
-            session, input, chars, attrs, reply, taken, written,
+            session, input, chars, attrs, marks, reply, taken, written,
         ))?;
         Ok(counts)
     }
@@ -185,12 +199,15 @@ impl Session {
         key: u32,
         chars: &mut [u8],
         attrs: &[u8],
+        marks: &mut [u8],
         reply: &mut [u8],
     ) -> Result<Counts, Refusal> {
         let mut counts = Counts::default();
         let Counts { taken, written } = &mut counts;
         let session = &mut self.0;
-        answer(raw::key(session, key, chars, attrs, reply, taken, written))?;
+        answer(raw::key(
+            session, key, chars, attrs, marks, reply, taken, written,
+        ))?;
         Ok(counts)
     }
 

@@ -1,5 +1,6 @@
 //! What the contracts of the three operations ask, run on the static library.
 
+mod form;
 mod lent;
 
 use std::collections::BTreeSet;
@@ -9,24 +10,9 @@ use host::refusal::Refusal;
 use host::terminal::{self, at, reply_room, Counts, Cursor, Reader, Session};
 use host::terminal::{LINE_MOST, OWN_MAPS, SESSION_LENGTH, SESSION_VERSION};
 
+use form::{form, marked, F, P};
 use lent::Call::{self, Host, Key};
 use lent::{cut_anywhere, fresh, Lent, LENT};
-
-/// Form F: its characters and its attributes.
-const F: &[u8; 16] = b"WT 70 #4UNIT mg ";
-const P: u8 = 8;
-const ATTRS: [u8; 16] = [P, P, P, 0, 0, 0, P, P, P, P, P, P, P, 0, 0, 0];
-
-/// Form F, option 20 on, every facility agreed, the least reply room.
-fn form(x: u8, y: u8) -> Lent {
-    let mut lent = Lent::open(8, 2);
-    (lent.session[at::X], lent.session[at::Y]) = (x, y);
-    lent.session[at::ON] = 1;
-    lent.session[at::MAPS..].fill(255);
-    lent.chars.copy_from_slice(F);
-    lent.attrs.copy_from_slice(&ATTRS);
-    lent
-}
 
 /// Option 30 on, the edit line full, the cursor on a guarded cell, the least
 /// reply room.
@@ -87,6 +73,8 @@ const REFUSALS: &[Row] = &[
     (2, |lent| lent.chars.push(b' ')),
     (2, |lent| lent.attrs.truncate(15)),
     (2, |lent| lent.attrs.push(0)),
+    (2, |lent| lent.marks.truncate(15)),
+    (2, |lent| lent.marks.push(0)),
     (3, |lent| lent.chars[0] = 31),
     (3, |lent| lent.chars[15] = 127),
     (4, |lent| lent.session[at::X] = 8),
@@ -100,7 +88,9 @@ const REFUSALS: &[Row] = &[
     }),
     (4, |lent| lent.session[at::PARAMETERS + 4] = 1),
     (4, |lent| lent.session[at::COPY + 27] = 2),
-    (5, |lent| lent.reply.truncate(113)),
+    (11, |lent| lent.marks[0] = 2),
+    (11, |lent| lent.marks[15] = 255),
+    (5, |lent| lent.reply.truncate(143)),
     (5, |lent| lent.reply.clear()),
 ];
 
@@ -118,8 +108,9 @@ const ORDER: &[Row] = &[
         lent.chars[0] = 0;
     }),
     (3, |lent| (lent.chars[0], lent.session[at::X]) = (0, 8)),
-    (4, |lent| {
-        lent.session[at::X] = 8;
+    (4, |lent| (lent.session[at::X], lent.marks[0]) = (8, 2)),
+    (11, |lent| {
+        lent.marks[0] = 2;
         lent.reply.clear();
     }),
 ];
@@ -174,7 +165,7 @@ fn every_refusal_leaves_all_as_it_came() {
         }
         seen.insert(number);
     }
-    assert!(seen.into_iter().eq((1..=10).chain([255])));
+    assert!(seen.into_iter().eq((1..=11).chain([255])));
 }
 
 /// The outermost that is not refused.
@@ -198,6 +189,7 @@ const TAKEN: &[Change] = &[
     |lent| lent.reply.push(LENT),
     |lent| lent.session[at::ON] = 0,
     |lent| lent.attrs.fill(255),
+    |lent| lent.marks.fill(1),
 ];
 
 #[test]
@@ -212,59 +204,72 @@ fn what_is_not_refused_is_done() {
 
 const S: usize = SESSION_LENGTH;
 
-/// The answer; width and height; the lengths of characters, attributes and
-/// the place for the session.
-const OPENS: &[(u8, [usize; 2], [usize; 3])] = &[
-    (0, [8, 2], [16, 16, S]),
-    (0, [1, 1], [1, 1, S]),
-    (0, [132, 64], [8448, 8448, S]),
-    (1, [133, 64], [8512, 8512, S]),
-    (1, [132, 65], [8580, 8580, S]),
-    (1, [0, 2], [0, 0, S]),
-    (1, [8, 0], [0, 0, S]),
-    (1, [0, 0], [1, 1, S]),
-    (1, [256 + 8, 2], [16, 16, S]),
-    (1, [8, (1 << 32) + 2], [16, 16, S]),
-    (1, [usize::MAX, usize::MAX], [1, 1, S]),
-    (2, [8, 2], [15, 16, S]),
-    (2, [8, 2], [17, 16, S]),
-    (2, [8, 2], [16, 15, S]),
-    (2, [8, 2], [16, 17, S]),
-    (2, [8, 2], [0, 0, S]),
-    (255, [8, 2], [16, 16, S - 1]),
-    (255, [8, 2], [16, 16, S + 1]),
-    (255, [8, 2], [16, 16, 206]),
-    (255, [8, 2], [16, 16, 15]),
-    (255, [0, 0], [1, 1, 0]),
+/// The answer; width and height; the lengths of characters, attributes, marks
+/// and the place for the session.
+const OPENS: &[(u8, [usize; 2], [usize; 4])] = &[
+    (0, [8, 2], [16, 16, 16, S]),
+    (0, [1, 1], [1, 1, 1, S]),
+    (0, [132, 64], [8448, 8448, 8448, S]),
+    (1, [133, 64], [8512, 8512, 8512, S]),
+    (1, [132, 65], [8580, 8580, 8580, S]),
+    (1, [0, 2], [0, 0, 0, S]),
+    (1, [8, 0], [0, 0, 0, S]),
+    (1, [0, 0], [1, 1, 1, S]),
+    (1, [256 + 8, 2], [16, 16, 16, S]),
+    (1, [8, (1 << 32) + 2], [16, 16, 16, S]),
+    (1, [usize::MAX, usize::MAX], [1, 1, 1, S]),
+    (2, [8, 2], [15, 16, 16, S]),
+    (2, [8, 2], [17, 16, 16, S]),
+    (2, [8, 2], [16, 15, 16, S]),
+    (2, [8, 2], [16, 17, 16, S]),
+    (2, [8, 2], [16, 16, 15, S]),
+    (2, [8, 2], [16, 16, 17, S]),
+    (2, [8, 2], [16, 16, 0, S]),
+    (2, [8, 2], [0, 0, 0, S]),
+    (255, [8, 2], [16, 16, 16, S - 1]),
+    (255, [8, 2], [16, 16, 16, S + 1]),
+    (255, [8, 2], [16, 16, 16, 206]),
+    (255, [8, 2], [16, 16, 16, 15]),
+    (255, [0, 0], [1, 1, 1, 0]),
 ];
 
 #[test]
 fn open_done_and_refused() {
-    for &(number, [width, height], [c, a, s]) in OPENS {
-        let (mut chars, mut attrs, mut session) = (vec![0x2a; c], vec![0x11; a], vec![LENT; s]);
-        let answer = raw::open(width, height, &mut chars, &mut attrs, &mut session);
-        let (char, attr, fresh) = match number {
-            0 => (b' ', 0, fresh(width as u8, height as u8)),
-            255 => (0x2a, 0x11, vec![LENT; s]),
-            _ => (0x2a, 0x11, fresh(0, 0)),
+    for &(number, [width, height], [c, a, m, s]) in OPENS {
+        // What stands in the buffers counts for nothing.
+        let (mut chars, mut attrs, mut marks) = (vec![200; c], vec![0x11; a], vec![2; m]);
+        let mut session = vec![LENT; s];
+        let answer = raw::open(
+            width,
+            height,
+            &mut chars,
+            &mut attrs,
+            &mut marks,
+            &mut session,
+        );
+        let ([char, attr, mark], fresh) = match number {
+            0 => ([b' ', 0, 0], fresh(width as u8, height as u8)),
+            255 => ([200, 0x11, 2], vec![LENT; s]),
+            _ => ([200, 0x11, 2], fresh(0, 0)),
         };
-        let case = format!("open {width} {height} with {c}, {a} and {s}");
+        let case = format!("open {width} {height} with {c}, {a}, {m} and {s}");
         assert_eq!((answer, session), (number, fresh), "{case}");
         assert_eq!((chars, attrs), (vec![char; c], vec![attr; a]), "{case}");
+        assert_eq!(marks, vec![mark; m], "{case}");
     }
 }
 
 #[test]
 fn a_refused_open_leaves_a_session_that_is_refused() {
-    let (mut chars, mut attrs, mut reply) = ([0; 2], [0; 2], [0; 99]);
-    let refused = terminal::open(2, 0, &mut chars, &mut attrs);
+    let (mut chars, mut attrs, mut marks, mut reply) = ([0; 2], [0; 2], [0; 2], [0; 99]);
+    let refused = terminal::open(2, 0, &mut chars, &mut attrs, &mut marks);
     assert_eq!(refused, Err((Refusal::Size, Session::default())));
     let mut session = Session::default();
     assert_eq!(session.as_bytes()[..], fresh(0, 0));
-    let host = session.host_bytes(b"A", &mut chars, &mut attrs, &mut reply);
-    let key = session.key(9, &mut chars, &attrs, &mut reply);
+    let host = session.host_bytes(b"A", &mut chars, &mut attrs, &mut marks, &mut reply);
+    let key = session.key(9, &mut chars, &attrs, &mut marks, &mut reply);
     assert_eq!((host, key), (Err(Refusal::Size), Err(Refusal::Size)));
-    let refused = terminal::open(2, 1, &mut chars, &mut attrs[..1]);
+    let refused = terminal::open(2, 1, &mut chars, &mut attrs, &mut marks[..1]);
     assert_eq!(refused, Err((Refusal::Length, Session::default())));
 }
 
@@ -289,7 +294,7 @@ const WORKED: &[Worked] = &[
         b"\xff\xfa\x14\x29\x05\x03\xff\xf0"),
     ("P4", [3, 0], Host(b"\xff\xfa\x14\x05\x07\x01\xff\xf0"), F, [7, 1], b""),
     ("P5", [6, 0], Host(b"A"), F, [6, 0], b""),
-    ("P6", [5, 0], Key('8' as u32), b"WT 708#4UNIT mg ", [5, 1], b""),
+    ("P6, a key", [5, 0], Key('8' as u32), b"WT 708#4UNIT mg ", [5, 1], b""),
     ("P6", [5, 0], Host(b"8"), b"WT 708#4UNIT mg ", [6, 0], b""),
     ("P7", [4, 0], Host(b"\xff\xfa\x14\x25\x03x\xff\xf0"), b"WT 7xx#4UNIT mg ", [6, 0], b""),
     ("P8", [6, 1], Host(b"\xff\xfa\x14\x13\xff\xf0"), F, [5, 1], b""),
@@ -318,6 +323,11 @@ fn worked_forms() {
         assert_eq!(lent.call(call), (0, taken, reply.len()), "{name}");
         let mut after = form(cursor[0], cursor[1]);
         after.chars.copy_from_slice(screen);
+        after.marks = marked(match name {
+            "P1" | "P2" | "delete" => &[3, 4, 5],
+            "P6, a key" => &[5],
+            _ => &[],
+        });
         after.reply[..reply.len()].copy_from_slice(reply);
         assert_eq!(lent, after, "{name}");
     }
@@ -375,9 +385,10 @@ fn facilities_are_agreed_first() {
 
 #[test]
 fn what_show_prints() {
-    let (mut chars, mut attrs, mut reply) = ([0; 16], [1; 16], [0; reply_room(8, 2)]);
-    let mut session = terminal::open(8, 2, &mut chars, &mut attrs).expect("a size");
-    let counts = session.host_bytes(b"HI", &mut chars, &mut attrs, &mut reply);
+    let (mut chars, mut attrs, mut marks) = ([0; 16], [1; 16], [1; 16]);
+    let mut session = terminal::open(8, 2, &mut chars, &mut attrs, &mut marks).expect("a size");
+    let mut reply = [0; reply_room(8, 2)];
+    let counts = session.host_bytes(b"HI", &mut chars, &mut attrs, &mut marks, &mut reply);
     let expected = Counts {
         taken: 2,
         written: 0,
@@ -385,18 +396,19 @@ fn what_show_prints() {
     assert_eq!(counts, Ok(expected));
     assert_eq!(session.cursor(), Cursor { x: 2, y: 0 });
     assert_eq!((&chars, attrs), (b"HI              ", [0; 16]));
+    assert_eq!(marks, [0; 16]);
 }
 
 /// Reply room and input; how many bytes are taken and written.
 const TAKING: &[(usize, &[u8], usize, usize)] = &[
-    (114, b"", 0, 0),
-    (114, b"\xff\xfd\x03", 3, 3),
-    (114, b"\xff\xfd\x03\xff\xfd\x03", 3, 3),
-    (116, b"\xff\xfd\x03\xff\xfd\x03", 3, 3),
-    (117, b"\xff\xfd\x03\xff\xfd\x03", 6, 6),
-    (117, b"\xff\xfd\x03\xff\xfd\x03A", 6, 6),
-    (114, b"A\xff\xfd\x03A", 4, 3),
-    (120, b"\xff\xfd\x03\xff\xfd\x03A", 7, 6),
+    (144, b"", 0, 0),
+    (144, b"\xff\xfd\x03", 3, 3),
+    (144, b"\xff\xfd\x03\xff\xfd\x03", 3, 3),
+    (146, b"\xff\xfd\x03\xff\xfd\x03", 3, 3),
+    (147, b"\xff\xfd\x03\xff\xfd\x03", 6, 6),
+    (147, b"\xff\xfd\x03\xff\xfd\x03A", 6, 6),
+    (144, b"A\xff\xfd\x03A", 4, 3),
+    (150, b"\xff\xfd\x03\xff\xfd\x03A", 7, 6),
 ];
 
 #[test]
@@ -519,7 +531,7 @@ fn the_parts_of_a_session() {
     assert!(session.line().iter().copied().eq(1..=100));
     assert_eq!(session.parameters(), MOST);
     assert_eq!(session.received_maps(), MAPS);
-    assert_eq!(session.agreed_maps(), [0x5a, 0x01, 0x14, 0x90, 0x01]);
+    assert_eq!(session.agreed_maps(), [0x5a, 0x01, 0x14, 0xd0, 0x01]);
     bytes[at::MAPS..].fill(255);
     let session = Session::from_bytes(bytes).expect("a session");
     assert_eq!(session.agreed_maps(), OWN_MAPS);
@@ -550,9 +562,10 @@ const READERS: &[(&[u8], Reader)] = &[
 #[test]
 fn where_the_reader_stands() {
     for &(input, reader) in READERS {
-        let (mut chars, mut attrs, mut reply) = ([0; 1], [0; 1], [0; reply_room(1, 1)]);
-        let mut session = terminal::open(1, 1, &mut chars, &mut attrs).expect("a size");
-        let counts = session.host_bytes(input, &mut chars, &mut attrs, &mut reply);
+        let (mut chars, mut attrs, mut marks) = ([0; 1], [0; 1], [0; 1]);
+        let mut session = terminal::open(1, 1, &mut chars, &mut attrs, &mut marks).expect("a size");
+        let mut reply = [0; reply_room(1, 1)];
+        let counts = session.host_bytes(input, &mut chars, &mut attrs, &mut marks, &mut reply);
         assert_eq!(counts.map(|counts| counts.taken), Ok(input.len()));
         assert_eq!(session.reader(), reader, "{input:x?}");
     }
@@ -562,7 +575,7 @@ fn where_the_reader_stands() {
 fn refusals_have_their_numbers() {
     for number in 0..=255 {
         let refusal = Refusal::of_number(number);
-        let expected = (1..=10).contains(&number).then_some(number);
+        let expected = (1..=11).contains(&number).then_some(number);
         assert_eq!(refusal.map(Refusal::number), expected);
     }
     let said = Refusal::Guarded.to_string();

@@ -47,8 +47,8 @@ fn the_layout_of_a_session() {
     }
     assert_eq!(number("DET_SESSION_LENGTH"), SESSION_LENGTH);
     assert_eq!(number("DET_SESSION_VERSION"), usize::from(SESSION_VERSION));
-    assert!(HEADER.contains("DET_REPLY_ROOM(m, n) ((size_t)7 * (m) * (n) + 2)"));
-    assert_eq!(reply_room(132, 64), 7 * 132 * 64 + 2);
+    assert!(HEADER.contains("DET_REPLY_ROOM(m, n) ((size_t)9 * (m) * (n))"));
+    assert_eq!(reply_room(132, 64), 9 * 132 * 64);
 }
 
 #[test]
@@ -93,6 +93,7 @@ fn refusals() {
         ("OFF", Refusal::Off),
         ("NO_MEANING", Refusal::NoMeaning),
         ("LINE_FULL", Refusal::LineFull),
+        ("MARK", Refusal::Mark),
     ];
     for (name, refusal) in names {
         let expected = usize::from(refusal.number());

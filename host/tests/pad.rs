@@ -244,14 +244,15 @@ const TYPED: &[Typed] = &[
 fn keys_into_the_line() {
     for &(pairs, keys, screen, [x, y], line, sent) in TYPED {
         let mut lent = pad_with(40, 2, &[EDITING, pairs].concat());
-        let attrs = lent.attrs.clone();
+        let zeros = lent.attrs.clone();
         let replies = keys.iter().flat_map(|key| lent.draws(Key((*key).into())));
         assert_eq!(replies.collect::<Vec<_>>(), sent, "{pairs:?} {keys:x?}");
         assert!(lent.chars.starts_with(screen), "{pairs:?} {keys:x?}");
         let session = lent.session();
         assert_eq!(session.cursor(), Cursor { x, y }, "{pairs:?} {keys:x?}");
         assert_eq!(session.line(), line, "{pairs:?} {keys:x?}");
-        assert_eq!(lent.attrs, attrs);
+        // Echo marks nothing.
+        assert_eq!((&lent.attrs, &lent.marks), (&zeros, &zeros));
     }
 }
 

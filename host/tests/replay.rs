@@ -12,54 +12,74 @@ fn answers(script: &[u8]) -> String {
 /// parameters at their start, nothing agreed.
 const AT_START: &str = " 0 - 00000000000000000000000000000000000000000000000000131100 0000000000";
 
-/// A script of calls, and its last answer up to option 30.
-const CALLS: &[(&str, &str)] = &[
-    ("host 41 3", "1 0 0 a5a5a5 0 0 0 0 0 0 - -"),
-    ("cursor 3 4\nkey 65 1", "1 0 0 a5 0 0 3 4 0 0 - -"),
-    ("open 2 1 2 2", "0 0 0 - 2 1 0 0 0 0 2020 0000"),
-    ("open 2 1 2 3", "2 0 0 - 0 0 0 0 0 0 2a2a 111111"),
+/// A script of calls, its last answer up to option 30, and the marks at its end.
+const CALLS: &[(&str, &str, &str)] = &[
+    ("host 41 3", "1 0 0 a5a5a5 0 0 0 0 0 0 - -", "-"),
+    ("cursor 3 4\nkey 65 1", "1 0 0 a5 0 0 3 4 0 0 - -", "-"),
+    ("open 2 1 2 2 2", "0 0 0 - 2 1 0 0 0 0 2020 0000", "0000"),
+    ("open 2 1 2 3 2", "2 0 0 - 0 0 0 0 0 0 2a2a 111111", "0101"),
+    ("open 2 1 2 2 3", "2 0 0 - 0 0 0 0 0 0 2a2a 1111", "010101"),
     (
-        "key 9 2\nopen 65535 0 0 8448\nopen 001 01 1 1\n",
+        "key 9 2\nopen 65535 0 0 8448 1\nopen 001 01 1 1 01\n",
         "0 0 0 - 1 1 0 0 0 0 20 00",
+        "00",
     ),
     (
-        "open 1 1 1 1\nhost 41fffd0342 9",
+        "open 1 1 1 1 1\nhost 41fffd0342 9",
         "0 4 3 fffc03a5a5a5a5a5a5 1 1 0 0 0 0 41 00",
+        "00",
     ),
     (
-        "open 1 1 1 1\ndet 1\nkey 143 9",
+        "open 1 1 1 1 1\ndet 1\nkey 143 9",
         "0 1 7 fffa142810fff0a5a5 1 1 0 0 1 0 20 00",
+        "00",
     ),
     (
-        "open 1 1 1 1\nkey 65 8",
+        "open 1 1 1 1 1\nkey 65 8",
         "5 0 0 a5a5a5a5a5a5a5a5 1 1 0 0 0 0 20 00",
+        "00",
     ),
     (
-        "open 1 1 1 1\nattrs 08\nsuppress 1\nkey 97 9",
+        "open 1 1 1 1 1\nattrs 08\nsuppress 1\nkey 97 9",
         "0 1 0 a5a5a5a5a5a5a5a5a5 1 1 0 0 0 1 61 08",
+        "01",
     ),
     (
-        "open 1 1 1 1\nchars 1f\nhost - 0",
+        "open 1 1 1 1 1\nchars 1f\nhost - 0",
         "3 0 0 - 1 1 0 0 0 0 1f 00",
+        "00",
     ),
     (
-        "open 1 1 1 1\nheld 7\nkey 255 0",
+        "open 1 1 1 1 1\nheld 7\nkey 255 0",
         "4 0 0 - 1 1 0 0 0 0 20 00",
+        "00",
     ),
     (
-        "open 1 1 1 1\nhost fffd1e 9",
+        "open 1 1 1 1 1\nmarks 02\nkey 255 0",
+        "11 0 0 - 1 1 0 0 0 0 20 00",
+        "02",
+    ),
+    (
+        "open 1 1 1 1 1\nmarks 01\nhost 41 9",
+        "0 1 0 a5a5a5a5a5a5a5a5a5 1 1 0 0 0 0 41 00",
+        "01",
+    ),
+    (
+        "open 1 1 1 1 1\nhost fffd1e 9",
         "0 3 3 fffc1ea5a5a5a5a5a5 1 1 0 0 0 0 20 00",
+        "00",
     ),
     (
-        "open 37 1 37 37\npad 1\npad 0\nopen 1 1 1 1",
+        "open 37 1 37 37 37\npad 1\npad 0\nopen 1 1 1 1 1",
         "0 0 0 - 1 1 0 0 0 0 20 00",
+        "00",
     ),
 ];
 
 #[test]
 fn each_call_is_answered() {
-    for (script, expected) in CALLS {
-        check(script, &format!("{expected}{AT_START}"));
+    for (script, expected, marks) in CALLS {
+        check(script, &format!("{expected}{AT_START} {marks}"));
     }
 }
 
@@ -67,14 +87,14 @@ fn each_call_is_answered() {
 const OTHERS: &[(&str, &str)] = &[
     ("state", "data - 0 000000000000"),
     (
-        "open 1 1 1 1\nhost fffa18ff 9\nheld 255\nstate",
+        "open 1 1 1 1 1\nhost fffa18ff 9\nheld 255\nstate",
         "sub-iac 24 255 000000000000",
     ),
     (
-        "open 1 1 1 1\nhost fffa180102 9\nstate",
+        "open 1 1 1 1 1\nhost fffa180102 9\nstate",
         "sub 24 2 010200000000",
     ),
-    ("chars -\nattrs -", "set"),
+    ("chars -\nattrs -\nmarks -", "set"),
     ("pad 1", "set"),
 ];
 
@@ -95,31 +115,31 @@ fn check(script: &str, expected: &str) {
 /// answer says of the option.
 const PADS: &[(&str, &str)] = &[
     (
-        "host - 261",
+        "host - 333",
         "1 - 00000000000000000000000000000000000000000000000000131100",
     ),
     (
-        "key 65 261\nkey 66 261",
+        "key 65 333\nkey 66 333",
         "1 4142 00000000000000000000000000000000000000000000000000131100",
     ),
     (
-        "host fffa1e00800181178403ff 261",
+        "host fffa1e00800181178403ff 333",
         "1 - 00000000000000000000000000000000000000000000000000131100",
     ),
     (
-        "host fffa1e0080018117840102010302fff0 261",
+        "host fffa1e0080018117840102010302fff0 333",
         "1 - 00000102000000000000000000000000000000000000000117131101",
     ),
     (
-        "host fffa1e00800181170302fff0 261\nhost fffa1e008000fff0 261\nkey 65 261",
+        "host fffa1e00800181170302fff0 333\nhost fffa1e008000fff0 333\nkey 65 333",
         "1 41 00000002000000000000000000000000000000000000000017131100",
     ),
     (
-        "key 65 261\npad 0\nkey 66 261",
+        "key 65 333\npad 0\nkey 66 333",
         "0 41 00000000000000000000000000000000000000000000000000131100",
     ),
     (
-        "key 65 261\nhost fffe1e 261",
+        "key 65 333\nhost fffe1e 333",
         "0 - 00000000000000000000000000000000000000000000000000131100",
     ),
 ];
@@ -127,7 +147,7 @@ const PADS: &[(&str, &str)] = &[
 #[test]
 fn answers_tell_of_option_30() {
     for (script, expected) in PADS {
-        let answers = answers(format!("open 37 1 37 37\npad 1\n{script}").as_bytes());
+        let answers = answers(format!("open 37 1 37 37 37\npad 1\n{script}").as_bytes());
         let last = answers.lines().last().unwrap_or_default();
         assert!(last.starts_with("0 "), "{script}: {last}");
         let fields: Vec<&str> = last.split(' ').skip(12).take(3).collect();
@@ -144,7 +164,7 @@ const MAPS: &[(&str, &str)] = &[
     ("fffa140104fff0fffa1401fff0", "0400000000"),
     ("fffa140104fff0fffa14010202fff0", "0400000000"),
     ("fffa1402fffffff0fffa1403fffffff0", "001f3f0000"),
-    ("fffa1404fffffffffff0", "0000009079"),
+    ("fffa1404fffffffffff0", "000000d079"),
     ("fffa14049079fff0fffd14", "0000009079"),
     ("fffa14049079fff0fffe14", "0000000000"),
     ("fffa14049079fff0fffe14fffd14", "0000000000"),
@@ -154,18 +174,18 @@ const MAPS: &[(&str, &str)] = &[
 #[test]
 fn answers_tell_what_is_agreed() {
     for (input, expected) in MAPS {
-        let answers = answers(format!("open 1 1 1 1\ndet 1\nhost {input} 999").as_bytes());
+        let answers = answers(format!("open 1 1 1 1 1\ndet 1\nhost {input} 999").as_bytes());
         let last = answers.lines().last().unwrap_or_default();
         assert!(last.starts_with("0 "), "{input}: {last}");
         assert_eq!(last.split(' ').nth(15), Some(*expected), "{input}");
-        assert_eq!(last.split(' ').count(), 16, "{input}");
+        assert_eq!(last.split(' ').count(), 17, "{input}");
     }
 }
 
 #[test]
 fn option_30_wants_37_cells() {
     for (cells, number) in [(36, '4'), (37, '0')] {
-        let script = format!("open {cells} 1 {cells} {cells}\npad 1\nkey 65 999");
+        let script = format!("open {cells} 1 {cells} {cells} {cells}\npad 1\nkey 65 999");
         let answers = answers(script.as_bytes());
         let last = answers.lines().last().unwrap_or_default();
         assert!(last.starts_with(number), "{cells}: {last}");
@@ -205,10 +225,15 @@ const BAD: &[&str] = &[
     "host -- 9",
     "chars",
     "attrs 0x11",
-    "open 1 1 1",
-    "open 65536 1 1 1",
-    "open 1 1 8449 1",
-    "open 1 1 1 99999999999999999999",
+    "marks",
+    "marks 1",
+    "marks 01 01",
+    "open 1 1 1 1",
+    "open 1 1 1 1 1 1",
+    "open 65536 1 1 1 1",
+    "open 1 1 8449 1 1",
+    "open 1 1 1 1 8449",
+    "open 1 1 1 1 99999999999999999999",
 ];
 
 #[test]
@@ -226,6 +251,7 @@ fn bytes_have_limits() {
     for (word, most, rest) in [
         ("chars", 8448, ""),
         ("attrs", 8448, ""),
+        ("marks", 8448, ""),
         ("host", 65536, " 0"),
     ] {
         let line = |bytes: usize| format!("{word} {}{rest}", "41".repeat(bytes));

@@ -35,6 +35,7 @@ pub mod code {
     pub const TRANSMIT_REST_OF_SCREEN: u8 = 24;
     pub const TRANSMIT_REST_OF_LINE: u8 = 25;
     pub const TRANSMIT_REST_OF_FIELD: u8 = 26;
+    pub const TRANSMIT_MODIFIED: u8 = 27;
     pub const DATA_TRANSMIT: u8 = 28;
     pub const ERASE_SCREEN: u8 = 29;
     pub const ERASE_LINE: u8 = 30;
@@ -69,7 +70,7 @@ pub fn parameter_count(code: u8) -> Option<usize> {
         code::FORMAT_FACILITIES | code::MOVE_CURSOR | code::REPEAT | code::ERROR => Some(2),
         code::FORMAT_DATA => Some(4),
         code::UP..=code::READ_CURSOR => Some(0),
-        code::REVERSE_TAB..=code::TRANSMIT_REST_OF_FIELD => Some(0),
+        code::REVERSE_TAB..=code::TRANSMIT_MODIFIED => Some(0),
         code::ERASE_SCREEN..=code::ERASE_UNPROTECTED => Some(0),
         _ => None,
     }
@@ -141,6 +142,7 @@ impl Desk<'_> {
         match self.variant {
             Variant::Error41Unknown => code == code::ERROR,
             Variant::SkipsUnknown => matches!(code, code::SKIP_TO_LINE | code::SKIP_TO_CHAR),
+            Variant::ModifiedUnknown => code == code::TRANSMIT_MODIFIED,
             Variant::LinesUnknown => matches!(code, code::LINE_INSERT | code::LINE_DELETE),
             _ => false,
         }
@@ -239,10 +241,10 @@ impl Desk<'_> {
             (code::LINE_INSERT, _) => self.screen.line_insert(),
             (code::LINE_DELETE, _) => self.screen.line_delete(),
             (code::CHAR_INSERT, _) => self.screen.insert(),
-            (code::CHAR_DELETE, _) => self.screen.delete(),
+            (code::CHAR_DELETE, _) => self.screen.delete(Variant::DeleteUnmarked),
             (code::READ_CURSOR, _) => self.read_cursor(),
             (code::REVERSE_TAB, _) => self.screen.reverse_tab(),
-            (code::TRANSMIT_SCREEN..=code::TRANSMIT_REST_OF_FIELD, _) => self.transmit(code),
+            (code::TRANSMIT_SCREEN..=code::TRANSMIT_MODIFIED, _) => self.transmit(code),
             (code::ERASE_SCREEN..=code::ERASE_UNPROTECTED, _) => self.screen.erase(code),
             (code::FORMAT_DATA, &[map, _, high, low]) => self.screen.format(map, [high, low]),
             (code::REPEAT, &[count, byte]) => self.screen.repeat(count, byte),

@@ -32,8 +32,9 @@ impl<'a> Desk<'a> {
             size: session.size,
             cursor: session.cursor,
             suppressed: session.suppressed,
-            chars: lent.chars,
-            attrs: lent.attrs,
+            chars: lent.buffers.chars,
+            attrs: lent.buffers.attrs,
+            marks: lent.buffers.marks,
             variant,
         };
         let mut pad = session.pad.clone();
@@ -143,6 +144,9 @@ impl<'a> Desk<'a> {
         }
         if self.det && !self.varies(Variant::DontKeepsSuppression) {
             self.screen.suppressed = false;
+        }
+        if self.det && self.varies(Variant::DontClearsMarks) {
+            self.screen.clear_marks();
         }
         if self.det || self.varies(Variant::DontOffEmptiesMaps) {
             self.agreed.forget(self.variant);

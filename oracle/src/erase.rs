@@ -31,6 +31,9 @@ impl Screen<'_> {
         if !self.varies(Variant::EraseScreenKeepsAttributes) {
             self.attrs.fill(0);
         }
+        if !self.varies(Variant::EraseScreenKeepsMarks) {
+            self.clear_marks();
+        }
         self.go(0);
     }
 
@@ -43,7 +46,17 @@ impl Screen<'_> {
             };
             if !spared {
                 self.chars[cell] = b' ';
+                self.mark_erased(cell);
             }
+        }
+    }
+
+    /// 30 to 34 neither mark nor clear, but for wrong variants.
+    fn mark_erased(&mut self, cell: usize) {
+        match self.variant {
+            Variant::EraseMarks => self.mark(cell..cell + 1),
+            Variant::EraseClears => self.set_marks(cell..cell + 1, 0),
+            _ => {}
         }
     }
 
@@ -57,6 +70,13 @@ impl Screen<'_> {
             if !spared {
                 self.chars[cell] = b' ';
             }
+            if !spared && self.varies(Variant::Erase35ClearsErased) {
+                self.set_marks(cell..cell + 1, 0);
+            }
+        }
+        match self.variant {
+            Variant::Erase35KeepsMarks | Variant::Erase35ClearsErased => {}
+            _ => self.clear_marks(),
         }
         match self.variant {
             Variant::Cursor35Stays => {}

@@ -72,6 +72,11 @@ impl Screen<'_> {
         let count = format_count(count, self.variant);
         let at = self.at();
         self.attrs[at..at + count].fill(map);
+        match self.variant {
+            Variant::FormatClearsMarks => self.set_marks(at..at + count, 0),
+            Variant::FormatMarks => self.mark(at..at + count),
+            _ => {}
+        }
         if self.varies(Variant::Cursor36Moves) {
             self.go((at + count).min(self.cells() - 1));
         }
@@ -80,6 +85,9 @@ impl Screen<'_> {
     /// 37: as so many host characters.
     pub fn repeat(&mut self, count: u8, byte: u8) {
         for _ in 0..count {
+            if self.varies(Variant::RepeatMarks) && !self.guarded(self.at()) {
+                self.mark(self.at()..self.at() + 1);
+            }
             self.write(byte);
         }
         if self.varies(Variant::RepeatLastWraps) && self.at() + 1 == self.cells() && count > 0 {

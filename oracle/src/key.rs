@@ -75,16 +75,32 @@ impl Desk<'_> {
             Key::Typed(byte) => self.type_in(byte),
             Key::Back => self.screen.previous_open(),
             Key::Tab => self.screen.tab(),
-            Key::Send => self.transmit_unprotected(),
-            Key::Delete => self.screen.delete(),
+            Key::Send => self.send_key(),
+            Key::Delete => self.screen.delete(Variant::KeyDeleteUnmarked),
             Key::Function(number) => self.reply.subcommand(&[code::FN, number]),
             Key::Line(byte) => self.type_into_line(byte),
         }
     }
 
+    fn send_key(&mut self) {
+        match self.variant {
+            Variant::SendKeyModified => return self.transmit_modified(),
+            Variant::SendKeyClearsMarks => self.screen.clear_marks(),
+            _ => {}
+        }
+        self.transmit_unprotected();
+    }
+
     fn type_in(&mut self, byte: u8) {
         let cell = self.screen.at();
+        let same = self.screen.chars[cell] == byte;
         self.screen.chars[cell] = byte;
+        match self.variant {
+            Variant::TypingUnmarked => {}
+            Variant::TypingSameUnmarked if same => {}
+            Variant::TypingMarksField => self.screen.mark(self.screen.field(cell)),
+            _ => self.screen.mark(cell..cell + 1),
+        }
         self.screen.next_open();
     }
 }

@@ -20,6 +20,8 @@ pub mod erase;
 pub mod facilities;
 pub mod format;
 pub mod lines;
+pub mod marks;
+pub mod modified;
 pub mod transmit;
 
 pub mod class;

@@ -16,12 +16,17 @@ impl Screen<'_> {
         if self.varies(Variant::LineInsertBelow) && moved.len() > m {
             moved.start += m;
         }
-        let first = moved.start..moved.start + m;
-        let kept = self.varies(Variant::LineInsertRotates);
-        self.chars[moved.clone()].rotate_right(m);
-        self.vacate(first, kept);
-        if self.varies(Variant::LinesTakeAttributes) {
-            self.attrs[moved].rotate_right(m);
+        let rotates = self.varies(Variant::LineInsertRotates);
+        self.shift_lines(moved.clone(), |cells, vacant| {
+            cells.rotate_right(m);
+            if !rotates {
+                cells[..m].fill(vacant);
+            }
+        });
+        match self.variant {
+            Variant::LinesTakeAttributes => self.attrs[moved].rotate_right(m),
+            Variant::LinesClearAttributes => self.attrs[moved][..m].fill(0),
+            _ => {}
         }
     }
 
@@ -31,30 +36,27 @@ impl Screen<'_> {
             return;
         };
         let m = usize::from(self.size.m);
-        let last = moved.end - m..moved.end;
+        let variant = self.variant;
+        self.shift_lines(moved.clone(), |cells, vacant| {
+            let last = cells.len() - m;
+            match variant {
+                Variant::LineDeleteKeepsLast => cells.copy_within(m.., 0),
+                _ => cells.rotate_left(m),
+            }
+            let kept = [Variant::LineDeleteKeepsLast, Variant::LineDeleteRotates];
+            if !kept.contains(&variant) {
+                cells[last..].fill(vacant);
+            }
+        });
         match self.variant {
-            Variant::LineDeleteKeepsLast => {
-                self.chars
-                    .copy_within(moved.start + m..moved.end, moved.start);
-            }
-            Variant::LineDeleteRotates => self.chars[moved.clone()].rotate_left(m),
-            _ => {
-                self.chars[moved.clone()].rotate_left(m);
-                self.vacate(last, false);
-            }
-        }
-        if self.varies(Variant::LinesTakeAttributes) {
-            self.attrs[moved].rotate_left(m);
+            Variant::LinesTakeAttributes => self.attrs[moved].rotate_left(m),
+            Variant::LinesClearAttributes => self.attrs[moved.end - m..].fill(0),
+            _ => {}
         }
     }
 
-    fn vacate(&mut self, line: Range<usize>, kept: bool) {
-        if !kept {
-            self.chars[line.clone()].fill(b' ');
-        }
-        if self.varies(Variant::LinesClearAttributes) {
-            self.attrs[line].fill(0);
-        }
+    fn shift_lines(&mut self, moved: Range<usize>, moves: impl Fn(&mut [u8], u8)) {
+        self.shift(moved, Variant::LinesUnmarked, moves);
     }
 
     /// From the start of the cursor's line to the screen's end; none where
@@ -74,6 +76,9 @@ impl Screen<'_> {
             _ => self.guarded(cell),
         };
         if tested.into_iter().any(stopped) {
+            if self.varies(Variant::StoppedMarks) {
+                self.mark(moved);
+            }
             return None;
         }
         if self.varies(Variant::LinesGoToStart) {

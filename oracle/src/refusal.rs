@@ -14,6 +14,7 @@ pub enum Refusal {
     DetOff = 8,
     NoMeaning = 9,
     LineFull = 10,
+    Mark = 11,
 }
 
 impl Refusal {
@@ -22,11 +23,12 @@ impl Refusal {
     }
 }
 
-const ORDER: [Refusal; 10] = [
+const ORDER: [Refusal; 11] = [
     Refusal::Size,
     Refusal::Buffers,
     Refusal::Character,
     Refusal::Session,
+    Refusal::Mark,
     Refusal::Room,
     Refusal::NoMeaning,
     Refusal::DetOff,
@@ -41,16 +43,20 @@ pub fn first(variant: Variant, given: impl Fn(Refusal) -> bool) -> Option<Refusa
     order(variant).into_iter().find(|&refusal| given(refusal))
 }
 
-fn order(variant: Variant) -> [Refusal; 10] {
+fn order(variant: Variant) -> [Refusal; 11] {
     let mut order = ORDER;
     match variant {
         Variant::Refuse2Before1 => order.swap(0, 1),
         Variant::Refuse3Before2 => order.swap(1, 2),
         Variant::Refuse4Before3 => order.swap(2, 3),
-        Variant::Refuse5Before4 => order.swap(3, 4),
-        Variant::Refuse9Before5 => order.swap(4, 5),
-        Variant::Refuse5Last => order[4..].rotate_left(1),
-        Variant::Refuse10Before5 => order[4..].rotate_right(1),
+        Variant::Refuse5Before4 => order[3..6].rotate_right(1),
+        Variant::Refuse11Before4 => order.swap(3, 4),
+        Variant::Refuse11Before2 => order[1..5].rotate_right(1),
+        Variant::Refuse11After5 => order.swap(4, 5),
+        Variant::Refuse11Last => order[4..].rotate_left(1),
+        Variant::Refuse9Before5 => order.swap(5, 6),
+        Variant::Refuse5Last => order[5..].rotate_left(1),
+        Variant::Refuse10Before5 => order[5..].rotate_right(1),
         _ => {}
     }
     order

@@ -6,13 +6,14 @@ use std::io::{self, BufRead, Write};
 use crate::script::{push_hex, Line};
 use crate::size::{X, Y};
 use crate::telnet::{Phase, Verb};
-use crate::terminal::{Lent, Outcome, Terminal};
+use crate::terminal::{Buffers, Lent, Outcome, Terminal};
 use crate::variant::Variant;
 use crate::watch::{Unwatched, Watch};
 
 /// What fills the buffers before a call.
 const LENT_CHAR: u8 = 0x2a;
 const LENT_ATTR: u8 = 0x11;
+const LENT_MARK: u8 = 0x01;
 const LENT_REPLY: u8 = 0xa5;
 
 /// A terminal with the buffers that its script lends it.
@@ -21,6 +22,7 @@ pub struct Replay {
     pub terminal: Terminal,
     pub chars: Vec<u8>,
     pub attrs: Vec<u8>,
+    pub marks: Vec<u8>,
     pub reply: Vec<u8>,
 }
 
@@ -36,7 +38,13 @@ impl Replay {
     pub fn run(&mut self, line: &Line, watch: &mut dyn Watch) -> Option<Outcome> {
         let session = &mut self.terminal.session;
         match line {
-            Line::Open { m, n, chars, attrs } => return Some(self.open(*m, *n, *chars, *attrs)),
+            Line::Open {
+                m,
+                n,
+                chars,
+                attrs,
+                marks,
+            } => return Some(self.open(*m, *n, [*chars, *attrs, *marks])),
             Line::Host(input, room) => {
                 let (terminal, lent) = self.lend(*room);
                 return Some(terminal.host(lent, input, watch));
@@ -47,6 +55,7 @@ impl Replay {
             }
             Line::Chars(bytes) => self.chars.clone_from(bytes),
             Line::Attrs(bytes) => self.attrs.clone_from(bytes),
+            Line::Marks(bytes) => self.marks.clone_from(bytes),
             Line::Cursor(x, y) => (session.cursor.x, session.cursor.y) = (X(*x), Y(*y)),
             Line::Held(count) => session.reader.held.count = *count,
             Line::Det(on) => session.det = *on,
@@ -57,19 +66,24 @@ impl Replay {
         None
     }
 
-    fn open(&mut self, m: u16, n: u16, chars: usize, attrs: usize) -> Outcome {
+    fn open(&mut self, m: u16, n: u16, [chars, attrs, marks]: [usize; 3]) -> Outcome {
         self.chars = vec![LENT_CHAR; chars];
         self.attrs = vec![LENT_ATTR; attrs];
-        self.reply.clear();
-        self.terminal.open(m, n, &mut self.chars, &mut self.attrs)
+        self.marks = vec![LENT_MARK; marks];
+        let (terminal, lent) = self.lend(0);
+        terminal.open(m, n, lent.buffers)
     }
 
     fn lend(&mut self, room: usize) -> (&mut Terminal, Lent<'_>) {
         self.reply.clear();
         self.reply.resize(room, LENT_REPLY);
-        let lent = Lent {
+        let buffers = Buffers {
             chars: &mut self.chars,
             attrs: &mut self.attrs,
+            marks: &mut self.marks,
+        };
+        let lent = Lent {
+            buffers,
             reply: &mut self.reply,
         };
         (&mut self.terminal, lent)
@@ -108,6 +122,8 @@ impl Replay {
         push_hex(text, session.pad.parameters.values());
         text.push(' ');
         push_hex(text, &session.agreed.0);
+        text.push(' ');
+        push_hex(text, &self.marks);
     }
 
     fn push_state(&self, text: &mut String) {

@@ -38,6 +38,8 @@ pub struct Screen<'a> {
     pub suppressed: bool,
     pub chars: &'a mut [u8],
     pub attrs: &'a mut [u8],
+    /// 1 for a cell that was typed in or shifted, else 0.
+    pub marks: &'a mut [u8],
     pub variant: Variant,
 }
 
@@ -143,6 +145,9 @@ impl Screen<'_> {
             return;
         }
         self.chars[cell] = byte;
+        if self.varies(Variant::HostMarks) {
+            self.mark(cell..cell + 1);
+        }
         self.advance();
     }
 
@@ -164,28 +169,34 @@ impl Screen<'_> {
 
     /// 15: a space at the cursor; the span's last character is lost.
     pub fn insert(&mut self) {
-        let span = self.shifted(Variant::InsertToLineEnd);
-        if let Some(span) = span {
-            self.chars[span.clone()].rotate_right(1);
-            self.chars[span.start] = b' ';
+        if let Some(span) = self.shifted(Variant::InsertToLineEnd) {
+            self.shift(span, Variant::InsertUnmarked, |cells, vacant| {
+                cells.rotate_right(1);
+                cells[0] = vacant;
+            });
         }
     }
 
     /// 16: the cursor's character is lost; a space at the span's end.
-    pub fn delete(&mut self) {
-        let span = self.shifted(Variant::DeleteToLineEnd);
-        if let Some(span) = span {
-            let last = span.end - 1;
-            self.chars.copy_within(span.start + 1..span.end, span.start);
-            if !self.varies(Variant::DeleteKeepsLast) {
-                self.chars[last] = b' ';
-            }
+    pub fn delete(&mut self, unmarked: Variant) {
+        let keeps = self.varies(Variant::DeleteKeepsLast);
+        if let Some(span) = self.shifted(Variant::DeleteToLineEnd) {
+            self.shift(span, unmarked, |cells, vacant| {
+                let last = cells.len() - 1;
+                cells.copy_within(1.., 0);
+                if !keeps {
+                    cells[last] = vacant;
+                }
+            });
         }
     }
 
     /// The cells that 15 and 16 shift: none on a guarded cell.
-    fn shifted(&self, to_line_end: Variant) -> Option<Range<usize>> {
+    fn shifted(&mut self, to_line_end: Variant) -> Option<Range<usize>> {
         if self.guarded(self.at()) && !self.varies(Variant::ShiftOnGuarded) {
+            if self.varies(Variant::StoppedMarks) {
+                self.mark(self.edit_span());
+            }
             return None;
         }
         if self.varies(to_line_end) {

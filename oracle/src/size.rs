@@ -43,9 +43,9 @@ impl Size {
         usize::from(self.m) * usize::from(self.n)
     }
 
-    /// The longest single reply: 21 over cells that are each a field.
+    /// The longest single reply: 27 over cells that are each a marked field.
     pub fn room(self) -> usize {
-        7 * self.cells() + 2
+        9 * self.cells()
     }
 
     pub fn holds(self, position: Position) -> bool {

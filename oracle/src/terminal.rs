@@ -15,10 +15,23 @@ pub struct Terminal {
     pub variant: Variant,
 }
 
-/// The memory that the caller lends for one call.
-pub struct Lent<'a> {
+/// The screen's memory, which the caller lends: C bytes each.
+pub struct Buffers<'a> {
     pub chars: &'a mut [u8],
     pub attrs: &'a mut [u8],
+    pub marks: &'a mut [u8],
+}
+
+impl Buffers<'_> {
+    fn fit(&self, cells: usize, marks_any: bool) -> bool {
+        let marks = self.marks.len() == cells || marks_any;
+        self.chars.len() == cells && self.attrs.len() == cells && marks
+    }
+}
+
+/// What is lent for host bytes or a key.
+pub struct Lent<'a> {
+    pub buffers: Buffers<'a>,
     pub reply: &'a mut [u8],
 }
 
@@ -46,7 +59,7 @@ impl Terminal {
         }
     }
 
-    pub fn open(&mut self, m: u16, n: u16, chars: &mut [u8], attrs: &mut [u8]) -> Outcome {
+    pub fn open(&mut self, m: u16, n: u16, buffers: Buffers) -> Outcome {
         self.session = Session {
             agreed: match self.variant {
                 Variant::OpenKeepsMaps => self.session.agreed,
@@ -58,14 +71,17 @@ impl Terminal {
         let cells = usize::from(m) * usize::from(n);
         let refusal = refusal::first(self.variant, |refusal| match refusal {
             Refusal::Size => size.is_none(),
-            Refusal::Buffers => chars.len() != cells || attrs.len() != cells,
+            Refusal::Buffers => !buffers.fit(cells, self.variant == Variant::OpenAnyMarks),
             _ => false,
         });
         if let Some(refusal) = refusal {
             return Outcome::refused(refusal);
         }
-        chars.fill(b' ');
-        attrs.fill(0);
+        buffers.chars.fill(b' ');
+        buffers.attrs.fill(0);
+        if self.variant != Variant::OpenKeepsMarks {
+            buffers.marks.fill(0);
+        }
         self.session.size = size.unwrap_or_default();
         Outcome::default()
     }
@@ -124,13 +140,16 @@ impl Terminal {
 
     /// The refusals that host bytes and keys share.
     fn unfit(&self, lent: &Lent, refusal: Refusal) -> bool {
-        let size = self.session.size;
+        let (size, buffers) = (self.session.size, &lent.buffers);
         let cells = size.cells();
         match refusal {
             Refusal::Size => !size.in_range(),
-            Refusal::Buffers => lent.chars.len() != cells || lent.attrs.len() != cells,
-            Refusal::Character => !lent.chars.iter().all(|c| (32..=126).contains(c)),
+            Refusal::Buffers => !buffers.fit(cells, self.variant == Variant::AnyMarks),
+            Refusal::Character => !buffers.chars.iter().all(|c| (32..=126).contains(c)),
             Refusal::Session => !self.session.sound(self.variant),
+            Refusal::Mark => {
+                buffers.marks.iter().any(|&mark| mark > 1) && self.variant != Variant::MarksAbove1
+            }
             Refusal::Room => lent.reply.len() < self.room_to_call(),
             _ => false,
         }
@@ -149,7 +168,7 @@ impl Terminal {
             Refusal::DetOff => !session.det && key.needs_det(self.variant),
             Refusal::Guarded => key.changes_cell() && self.on_guarded(lent),
             Refusal::Class => {
-                let attr = lent.attrs[session.size.cell(session.cursor)];
+                let attr = lent.buffers.attrs[session.size.cell(session.cursor)];
                 !key.fits(attr, session.suppressed, self.variant)
             }
             Refusal::LineFull => match key {
@@ -162,7 +181,11 @@ impl Terminal {
 
     fn on_guarded(&self, lent: &Lent) -> bool {
         let cell = self.session.size.cell(self.session.cursor);
-        crate::screen::guarded(lent.attrs[cell], self.session.suppressed, self.variant)
+        crate::screen::guarded(
+            lent.buffers.attrs[cell],
+            self.session.suppressed,
+            self.variant,
+        )
     }
 
     fn room_to_call(&self) -> usize {
@@ -170,6 +193,7 @@ impl Terminal {
         match self.variant {
             Variant::RefuseRoomLess => room - 1,
             Variant::RefuseRoomMore => room + 1,
+            Variant::RefuseRoomOld => 7 * self.session.size.cells() + 2,
             _ => room,
         }
     }
@@ -179,6 +203,7 @@ impl Terminal {
         match self.variant {
             Variant::TakeRoomLess => room - 1,
             Variant::TakeRoomMore => room + 1,
+            Variant::TakeRoomOld => 7 * self.session.size.cells() + 2,
             _ => room,
         }
     }

@@ -1,4 +1,4 @@
-//! 20 to 26: a preface, then characters.
+//! 20 to 26: a preface, then characters. 27 has its own file.
 
 use std::ops::Range;
 
@@ -15,19 +15,20 @@ impl Desk<'_> {
             code::TRANSMIT_FIELD => self.transmit_field(),
             code::TRANSMIT_REST_OF_SCREEN => self.send(self.screen.at()..self.screen.cells()),
             code::TRANSMIT_REST_OF_LINE => self.send(self.screen.at()..self.screen.line().end),
-            _ => self.transmit_rest_of_field(),
+            code::TRANSMIT_REST_OF_FIELD => self.transmit_rest_of_field(),
+            _ => self.transmit_modified(),
         }
     }
 
     /// 28 with the cell's position.
-    fn preface(&mut self, cell: usize) {
+    pub fn preface(&mut self, cell: usize) {
         let position = self.screen.size.position(cell);
         self.reply
             .subcommand(&[code::DATA_TRANSMIT, position.x.0, position.y.0]);
     }
 
     /// The cells' characters, prefaced by the first.
-    fn send(&mut self, cells: Range<usize>) {
+    pub fn send(&mut self, cells: Range<usize>) {
         self.preface(cells.start);
         self.reply.data(&self.screen.chars[cells]);
     }
@@ -54,6 +55,9 @@ impl Desk<'_> {
             _ => first,
         });
         self.send_fields();
+        if self.varies(Variant::Transmit21ClearsMarks) {
+            self.screen.clear_marks();
+        }
         match self.variant {
             Variant::Cursor21Stays => {}
             Variant::Cursor21EmptyStays if empty => {}

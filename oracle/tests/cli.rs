@@ -23,24 +23,24 @@ fn stdout(output: &Output) -> String {
 }
 
 /// Option 30 as open leaves it, and nothing agreed.
-const START: &str = " 0 - 00000000000000000000000000000000000000000000000000131100 0000000000\n";
+const START: &str = " 0 - 00000000000000000000000000000000000000000000000000131100 0000000000";
 
 #[test]
 fn answers_a_script() {
-    let output = oracle(&[], "open 1 1 1 1\nkey 65 9\nstat\nstate\n");
+    let output = oracle(&[], "open 1 1 1 1 1\nkey 65 9\nstat\nstate\n");
     let open = "0 0 0 - 1 1 0 0 0 0 20 00";
     let key = "0 1 0 a5a5a5a5a5a5a5a5a5 1 1 0 0 0 0 41 00";
-    let expected = format!("{open}{START}{key}{START}bad line 3\n");
+    let expected = format!("{open}{START} 00\n{key}{START} 01\nbad line 3\n");
     assert_eq!(stdout(&output), expected);
     assert_eq!(output.status.code(), Some(0));
 }
 
 #[test]
 fn runs_a_variant() {
-    let script = "open 1 1 1 1\nhost - 9\n";
+    let script = "open 1 1 1 1 1\nhost - 9\n";
     let right = stdout(&oracle(&[], script));
     let wrong = stdout(&oracle(&["--variant", "refuse-room-more"], script));
-    let rest = format!(" 0 0 a5a5a5a5a5a5a5a5a5 1 1 0 0 0 0 20 00{START}");
+    let rest = format!(" 0 0 a5a5a5a5a5a5a5a5a5 1 1 0 0 0 0 20 00{START} 00\n");
     assert!(right.ends_with(&format!("\n0{rest}")));
     assert!(wrong.ends_with(&format!("\n5{rest}")));
 }

@@ -12,7 +12,7 @@ use oracle::watch::{Event, Sight, Unwatched, Watch};
 
 /// Seeds whose scripts leave nothing out.
 const FULL_SEEDS: [u64; 3] = [1, 2, 3];
-const FULL_CALLS: usize = 50_000;
+const FULL_CALLS: usize = 100_000;
 
 const SCRIPTS: u64 = 50;
 const CALLS: usize = 1_000;
@@ -131,6 +131,7 @@ fn cutting_a_stream_changes_nothing() {
             }
             assert_eq!(whole.terminal.session, cut.terminal.session);
             assert_eq!((&whole.chars, &whole.attrs), (&cut.chars, &cut.attrs));
+            assert_eq!(whole.marks, cut.marks);
         }
     }
 }

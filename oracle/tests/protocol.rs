@@ -17,22 +17,37 @@ fn last(script: &str) -> String {
 
 /// Option 30 off, an empty line, all parameters at their starts, nothing
 /// agreed.
-const START: &str = " 0 - 00000000000000000000000000000000000000000000000000131100 0000000000";
-const NO_MAPS: &str = " 0000000000";
+const START: &str = "0 - 00000000000000000000000000000000000000000000000000131100 0000000000";
 
-/// The last answer, which must end with those.
-fn last_base(script: &str) -> String {
+/// Fields of the last answer, counted from 0, parted by spaces.
+fn fields(script: &str, range: std::ops::Range<usize>) -> String {
     let answer = last(script);
-    let base = answer.strip_suffix(START).expect("no trace of requests");
-    base.into()
+    let fields: Vec<&str> = answer.split(' ').collect();
+    assert_eq!(fields.len(), 17, "{answer}");
+    fields[range].join(" ")
+}
+
+/// The fields of document 01; those of requests (i) and (ii) must be as at
+/// the start.
+fn last_base(script: &str) -> String {
+    assert_eq!(fields(script, 12..16), START);
+    fields(script, 0..12)
+}
+
+fn marks(script: &str) -> String {
+    fields(script, 16..17)
 }
 
 #[test]
 fn open_done_and_refused() {
-    assert_eq!(last_base("open 2 1 2 2"), "0 0 0 - 2 1 0 0 0 0 2020 0000");
-    assert_eq!(last_base("open 2 1 2 3"), "2 0 0 - 0 0 0 0 0 0 2a2a 111111");
-    assert_eq!(last_base("open 65535 0 0 1"), "1 0 0 - 0 0 0 0 0 0 - 11");
-    let gone = "open 2 1 2 2\ndet 1\ncursor 1 0\npad 1\nopen 1 1 1 1";
+    assert_eq!(last_base("open 2 1 2 2 2"), "0 0 0 - 2 1 0 0 0 0 2020 0000");
+    assert_eq!(
+        last_base("open 2 1 2 3 2"),
+        "2 0 0 - 0 0 0 0 0 0 2a2a 111111"
+    );
+    assert_eq!(last_base("open 65535 0 0 1 1"), "1 0 0 - 0 0 0 0 0 0 - 11");
+    assert_eq!(last_base("open 2 1 2 2 3"), "2 0 0 - 0 0 0 0 0 0 2a2a 1111");
+    let gone = "open 2 1 2 2 2\ndet 1\ncursor 1 0\npad 1\nopen 1 1 1 1 1";
     assert_eq!(last_base(gone), "0 0 0 - 1 1 0 0 0 0 20 00");
 }
 
@@ -48,7 +63,7 @@ fn before_any_open() {
 #[test]
 fn host_and_key() {
     let last = last_base;
-    let open = "open 1 1 1 1\n";
+    let open = "open 1 1 1 1 1\n";
     let host = last(&format!("{open}host 41fffd0342 9"));
     assert_eq!(host, "0 4 3 fffc03a5a5a5a5a5a5 1 1 0 0 0 0 41 00");
     let host = last(&format!("{open}host - 9"));
@@ -62,53 +77,51 @@ fn host_and_key() {
 #[test]
 fn set_lines() {
     let script =
-        "open 1 1 1 1\nchars 7e\nattrs 08\nsuppress 1\ndet 1\ncursor 0 0\nheld 0\nkey 97 9";
-    let mut expected = vec![format!("0 0 0 - 1 1 0 0 0 0 20 00{START}")];
-    expected.extend(["set"; 6].map(String::from));
-    expected.push(format!("0 1 0 a5a5a5a5a5a5a5a5a5 1 1 0 0 1 1 61 08{START}"));
-    assert_eq!(answers(script), expected);
+        "open 1 1 1 1 1\nchars 7e\nattrs 08\nsuppress 1\ndet 1\ncursor 0 0\nheld 0\nkey 97 9";
+    assert_eq!(answers(script)[1..7], ["set"; 6]);
+    let typed = "0 1 0 a5a5a5a5a5a5a5a5a5 1 1 0 0 1 1 61 08";
+    assert_eq!(last_base(script), typed);
     assert_eq!(last("chars -"), "set");
     assert_eq!(
-        last("open 1 1 1 1\nchars 1f\nkey 97 9").split(' ').next(),
+        last("open 1 1 1 1 1\nchars 1f\nkey 97 9").split(' ').next(),
         Some("3")
     );
     assert_eq!(
-        last("open 1 1 1 1\ncursor 1 0\nkey 97 9").split(' ').next(),
+        last("open 1 1 1 1 1\ncursor 1 0\nkey 97 9")
+            .split(' ')
+            .next(),
         Some("4")
     );
     assert_eq!(
-        last("open 1 1 1 1\nheld 7\nkey 97 9").split(' ').next(),
+        last("open 1 1 1 1 1\nheld 7\nkey 97 9").split(' ').next(),
         Some("4")
     );
 }
 
-/// The end of an answer: option 30, the line, the parameters.
+/// Option 30, the line, the parameters.
 fn pad_fields(script: &str) -> String {
-    let answer = last(script);
-    let answer = answer.strip_suffix(NO_MAPS).expect("nothing agreed");
-    let fields: Vec<&str> = answer.split(' ').skip(12).collect();
-    fields.join(" ")
+    fields(script, 12..15)
 }
 
 #[test]
-fn option_30_shows_at_the_end() {
-    let open = "open 37 1 37 37\npad 1\n";
-    let starts = START[5..].strip_suffix(NO_MAPS).expect("starts alone");
+fn option_30_shows() {
+    let open = "open 37 1 37 37 37\npad 1\n";
+    let starts = START.split(' ').nth(2).expect("a field");
     assert_eq!(
-        pad_fields(&format!("{open}key 65 261")),
+        pad_fields(&format!("{open}key 65 333")),
         format!("1 41 {starts}")
     );
-    let off = format!("{open}key 65 261\nkey 0 261\npad 0\nhost - 261");
+    let off = format!("{open}key 65 333\nkey 0 333\npad 0\nhost - 333");
     assert_eq!(pad_fields(&off), format!("0 4100 {starts}"));
-    let set = format!("{open}host fffa1e00030280018105fff0 261");
+    let set = format!("{open}host fffa1e00030280018105fff0 333");
     let values = "00000002000000000000000000000000000000000000000105131100";
     assert_eq!(pad_fields(&set), format!("1 - {values}"));
-    let other = format!("{open}host fffa1e00030280018105fff0fffa1e008000fff0 270");
+    let other = format!("{open}host fffa1e00030280018105fff0fffa1e008000fff0 342");
     assert_eq!(
         pad_fields(&other),
         format!("1 - {}", values.replace("0105", "0005"))
     );
-    let half = format!("{open}host fffa1e000302ff 261");
+    let half = format!("{open}host fffa1e000302ff 333");
     assert_eq!(pad_fields(&half), format!("1 - {starts}"));
     assert_eq!(last(&format!("{half}\nstate")), "sub-iac 30 3 000302000000");
     assert_eq!(last("pad 1"), "set");
@@ -117,7 +130,7 @@ fn option_30_shows_at_the_end() {
 
 #[test]
 fn a_message_ignores_count_and_held() {
-    let message = "open 37 1 37 37\npad 1\nhost fffa1e000302 261\nheld 0\nhost 0d07fff0 261";
+    let message = "open 37 1 37 37 37\npad 1\nhost fffa1e000302 333\nheld 0\nhost 0d07fff0 333";
     assert!(pad_fields(message).contains(" 00000002000000000000000000070000"));
     let between = message.replace("held 0", "pad 0\nheld 6\npad 1");
     assert_eq!(pad_fields(&between), pad_fields(message));
@@ -125,7 +138,7 @@ fn a_message_ignores_count_and_held() {
 
 #[test]
 fn state_lines() {
-    let after = |bytes: &str| last(&format!("open 1 1 1 1\nhost {bytes} 90\nstate"));
+    let after = |bytes: &str| last(&format!("open 1 1 1 1 1\nhost {bytes} 90\nstate"));
     assert_eq!(after("41"), "data - 0 000000000000");
     assert_eq!(after("ff"), "iac - 0 000000000000");
     assert_eq!(after("fffb"), "will - 0 000000000000");
@@ -142,35 +155,58 @@ fn state_lines() {
     );
     assert_eq!(after("fffa140102fff0"), "data - 0 000000000000");
     assert_eq!(after("fffa140102fffa"), "sb - 0 000000000000");
-    let held = last("open 1 1 1 1\nhost fffa14010203 9\nheld 1\nhost 04 9\nstate");
+    let held = last("open 1 1 1 1 1\nhost fffa14010203 9\nheld 1\nhost 04 9\nstate");
     assert_eq!(held, "sub 20 2 010403000000");
 }
 
-/// The end of an answer: what is agreed.
+/// What is agreed.
 fn maps(script: &str) -> String {
-    let answer = last(script);
-    answer.rsplit(' ').next().expect("a field").into()
+    fields(script, 15..16)
 }
 
 #[test]
-fn agreed_maps_show_at_the_end() {
-    let open = "open 1 1 1 1\nhost fffd14 90\n";
+fn agreed_maps_show() {
+    let open = "open 1 1 1 1 1\nhost fffd14 90\n";
     let all = "host fffa1401fffffff0fffa1402fffffff0fffa1403fffffff0fffa1404fffffffffff0 90";
     assert_eq!(maps(open), "0000000000");
-    assert_eq!(maps(&format!("{open}{all}")), "7e1f3f9079");
+    assert_eq!(maps(&format!("{open}{all}")), "7e1f3fd079");
     let less = "host fffa1404108efff0fffa140107fff0 90";
     assert_eq!(maps(&format!("{open}{all}\n{less}")), "061f3f1008");
-    assert_eq!(maps(&format!("{open}{all}\ndet 0\nhost - 9")), "7e1f3f9079");
-    assert_eq!(maps(&format!("{open}{all}\nkey 0 9")), "7e1f3f9079");
+    assert_eq!(maps(&format!("{open}{all}\ndet 0\nhost - 9")), "7e1f3fd079");
+    assert_eq!(maps(&format!("{open}{all}\nkey 0 9")), "7e1f3fd079");
     assert_eq!(maps(&format!("{open}{all}\nhost fffe14 90")), "0000000000");
-    assert_eq!(maps(&format!("{open}{all}\nopen 1 1 1 1")), "0000000000");
-    assert_eq!(maps(&format!("{open}{all}\nopen 1 1 1 2")), "0000000000");
+    assert_eq!(maps(&format!("{open}{all}\nopen 1 1 1 1 1")), "0000000000");
+    assert_eq!(maps(&format!("{open}{all}\nopen 1 1 1 2 2")), "0000000000");
+}
+
+#[test]
+fn marks_show_at_the_end() {
+    let open = "open 3 1 3 3 3\n";
+    assert_eq!(marks(open), "000000");
+    assert_eq!(marks("open 3 1 3 3 2"), "0101");
+    assert_eq!(marks("open 0 0 0 0 4"), "01010101");
+    assert_eq!(marks("open 3 1 3 3 0"), "-");
+    assert_eq!(marks("host - 0"), "-");
+    assert_eq!(last("marks 0102"), "set");
+    assert_eq!(marks("marks 0102ff\nkey 65 9"), "0102ff");
+    assert_eq!(marks(&format!("{open}key 65 27\nkey 66 27")), "010100");
+    assert_eq!(marks(&format!("{open}marks 010001\nhost 41 27")), "010001");
+    let answer = |script: &str| fields(&format!("{open}{script}"), 0..1);
+    assert_eq!(answer("marks 000100\nhost - 27"), "0");
+    assert_eq!(answer("marks 0001\nhost - 27"), "2");
+    assert_eq!(answer("marks 00010000\nkey 9 27"), "2");
+    assert_eq!(answer("marks -\nkey 9 27"), "2");
+    assert_eq!(answer("marks 000200\nhost - 27"), "11");
+    assert_eq!(answer("marks 0000ff\nkey 0 26"), "11");
+    assert_eq!(answer("marks 000200\nheld 7\nhost - 27"), "4");
+    assert_eq!(answer("marks 000200\nchars 20201f\nhost - 27"), "3");
+    assert_eq!(answer("host - 26"), "5");
 }
 
 /// Data and other commands leave it; the next option byte clears it.
 #[test]
 fn a_count_set_outside_a_subnegotiation_stays_until_the_option_byte() {
-    let start = "open 1 1 1 1\ndet 1\nheld 3\n";
+    let start = "open 1 1 1 1 1\ndet 1\nheld 3\n";
     assert_eq!(
         last(&format!("{start}host 41fff1 9\nstate")),
         "data - 3 000000000000"
@@ -198,16 +234,21 @@ State
 \x20state
 state 1
 stat
-open 1 1 1
-open 1 1 1 1 1
-open 65536 1 1 1
-open 1 65536 1 1
-open 1 1 8449 1
-open 1 1 1 8449
-open  1 1 1 1
-open -1 1 1 1
-open +1 1 1 1
-open 1 1 1 x
+open 1 1 1 1
+open 1 1 1 1 1 1
+open 65536 1 1 1 1
+open 1 65536 1 1 1
+open 1 1 8449 1 1
+open 1 1 1 8449 1
+open 1 1 1 1 8449
+open  1 1 1 1 1
+open -1 1 1 1 1
+open +1 1 1 1 1
+open 1 1 1 1 x
+marks
+marks 1
+marks 0A
+marks 01 01
 chars
 chars 1
 chars 2A
@@ -254,6 +295,8 @@ fn bad_lines_end_the_script() {
     assert_eq!(last(&long("chars", 8_448)), "set");
     assert_eq!(last(&long("chars", 8_449)), "bad line 1");
     assert_eq!(last(&long("attrs", 8_449)), "bad line 1");
+    assert_eq!(last(&long("marks", 8_448)), "set");
+    assert_eq!(last(&long("marks", 8_449)), "bad line 1");
     assert!(last(&(long("host", 65_536) + " 0")).starts_with("1 0 0 - "));
     assert_eq!(last(&(long("host", 65_537) + " 0")), "bad line 1");
     assert!(last("host - 80000").starts_with("1 0 0 a5"));

@@ -5,7 +5,7 @@
 #include "det.h"
 
 struct lent {
-    uint8_t *session, *chars, *attrs, *reply;
+    uint8_t *session, *chars, *attrs, *marks, *reply;
     const uint8_t *input;
     size_t width, height, room, length;
     uint32_t key;
@@ -29,20 +29,20 @@ static void nothing(void) {}
 
 static void call_open(void) {
     size_t cells = now.width * now.height;
-    answer = open_by(now.width, now.height, now.chars, cells, now.attrs, cells, now.session,
-                     DET_SESSION_LENGTH);
+    answer = open_by(now.width, now.height, now.chars, cells, now.attrs, cells, now.marks, cells,
+                     now.session, DET_SESSION_LENGTH);
 }
 
 static void call_host(void) {
     size_t cells = now.width * now.height;
     answer = host_by(now.session, DET_SESSION_LENGTH, now.input, now.length, now.chars, cells,
-                     now.attrs, cells, now.reply, now.room, &taken, &written);
+                     now.attrs, cells, now.marks, cells, now.reply, now.room, &taken, &written);
 }
 
 static void call_key(void) {
     size_t cells = now.width * now.height;
     answer = key_by(now.session, DET_SESSION_LENGTH, now.key, now.chars, cells, now.attrs, cells,
-                    now.reply, now.room, &taken, &written);
+                    now.marks, cells, now.reply, now.room, &taken, &written);
 }
 
 /* From the stack's top down, when calling what does nothing or, where real is 1, the terminal. The

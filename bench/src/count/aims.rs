@@ -41,7 +41,7 @@ fn each(counts: &Both, number: impl Fn(&Counts) -> Option<f64>) -> [Option<f64>;
 }
 
 fn printable(counts: &Both) -> Row {
-    let what = "the printable test, a cell";
+    let what = "the tests of characters and marks, a cell";
     row(
         what.into(),
         each(counts, printable::a_cell),

@@ -27,7 +27,7 @@ macro_rules! alone {
     };
 }
 
-const ALONE: [Command; 24] = alone! {
+const ALONE: [Command; 25] = alone! {
     8 "UP (8)"
     9 "DOWN (9)"
     10 "LEFT (10)"
@@ -44,6 +44,7 @@ const ALONE: [Command; 24] = alone! {
     24 "TRANSMIT REST OF SCREEN (24)"
     25 "TRANSMIT REST OF LINE (25)"
     26 "TRANSMIT REST OF FIELD (26)"
+    27 "TRANSMIT MODIFIED (27)"
     29 "ERASE SCREEN (29)"
     30 "ERASE LINE (30)"
     31 "ERASE FIELD (31)"

@@ -1,4 +1,4 @@
--- Laws of refusals: lists of tests, the sizes, and the least and the greatest character.
+-- Laws of refusals: lists of tests, the sizes, the least and the greatest character, and the greatest mark.
 use mathlib.Core.Path.{_≡_, refl}
 use mathlib.Core.Bool.{Bool, true, false, not, _&&_}
 use mathlib.Core.List.{List, [], _∷_, _++_}
@@ -13,7 +13,7 @@ use Rattle.words.specs.Words.{between}
 use Rattle.words.proofs.Laws.{true-or-false, not-both, and-left, and-right}
 use Rattle.screen.proofs.CellLaws.{cells-few}
 use Rattle.rules.specs.declared.Refusal.the-variants.{Taken}
-use Rattle.rules.specs.Session.{sizesOk, allPrintable}
+use Rattle.rules.specs.Session.{sizesOk, allPrintable, allMarks}
 use Rattle.rules.specs.Refusal.{Test, isTaken, verdict}
 use Rattle.rules.proofs.Refusals.{refuses}
 
@@ -85,3 +85,18 @@ text-on chars i low high h =
     let c = getD chars i 0 in
     rw (add-one, drop-cons chars i 0, least-above 32 low c, greatest-below 126 high c)
     (regroup (leb 32 c) (leb c 126) (allPrintable (drop (suc i) chars)) (leb 32 low) (leb high 126))
+
+-- ---- the greatest mark
+
+regroup-marks : (m r h : Bool) → ((m && r) && h) ≡ (r && (m && h))
+regroup-marks true r h = refl
+regroup-marks false true h = refl
+regroup-marks false false h = refl
+
+-- a mark goes into it
+pub marks-on : (marks : List ℕ) (i high : ℕ) → i < length marks → let m = getD marks i 0 in
+    (allMarks (drop i marks) && leb high 1) ≡ (allMarks (drop (i + 1) marks) && leb (max high m) 1)
+unfolding allMarks
+marks-on marks i high h =
+    let m = getD marks i 0 in
+    rw (add-one, drop-cons marks i 0, greatest-below 1 high m) (regroup-marks (leb m 1) (allMarks (drop (suc i) marks)) (leb high 1))

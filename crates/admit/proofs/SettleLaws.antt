@@ -6,7 +6,7 @@ use Prim.Native.Nat.{ℕ, _*_, _≤_}
 use borrow.Author.Tests.{eqb-true}
 use lib.Dec.{eqb}
 use lib.ListN.{length}
-use Rattle.edit.specs.Edits.{erased, formatted}
+use Rattle.edit.specs.Edits.{erased, filled}
 use Rattle.words.proofs.Laws.{and-left, and-right}
 use Rattle.edit.proofs.EditLaws.{all-spaces, all-zeros}
 use Rattle.rules.specs.declared.Refusal.{Refusal}
@@ -42,18 +42,22 @@ module _ (m n : ℕ) (b : Screen) {why : Refusal} (e : why ≡ verdict (sizeTest
 
   module _ (t : why ≡ Taken) where
     -- the sizes and the lengths, as refusals 1 and 2 ask
-    pub open-sizes : (m ≤ 132) × (n ≤ 64) × (length (b .chars) ≡ n * m) × (length (b .attrs) ≡ n * m)
+    pub open-sizes : (m ≤ 132) × (n ≤ 64) × (length (b .chars) ≡ n * m) × (length (b .attrs) ≡ n * m) × (length (b .marks) ≡ n * m)
     unfolding sizeTests
     open-sizes =
         let passed = all-pass (sizeTests (freshFrame m n) b) refl (ap isTaken (sym e ∙ t)) in
         let sizes = bounds m n (passed .0) in
-        let c = and-left (eqb (length (b .chars)) (n * m)) (eqb (length (b .attrs)) (n * m)) (passed .1 .0) in
-        let a = and-right (eqb (length (b .chars)) (n * m)) (eqb (length (b .attrs)) (n * m)) (passed .1 .0) in
-        (sizes .0, sizes .1, eqb-true _ _ c, eqb-true _ _ a)
+        let c = and-left (eqb (length (b .chars)) (n * m)) _ (passed .1 .0) in
+        let both = and-right (eqb (length (b .chars)) (n * m)) _ (passed .1 .0) in
+        let a = and-left (eqb (length (b .attrs)) (n * m)) (eqb (length (b .marks)) (n * m)) both in
+        let k = and-right (eqb (length (b .attrs)) (n * m)) (eqb (length (b .marks)) (n * m)) both in
+        (sizes .0, sizes .1, eqb-true _ _ c, eqb-true _ _ a, eqb-true _ _ k)
 
-    pub open-done : {s : Session} {chars attrs : List ℕ} → s ≡ fresh m n → chars ≡ erased true (b .chars) (b .attrs) 0 (length (b .chars))
-        → attrs ≡ formatted 0 (length (b .attrs)) 0 (b .attrs)
-        → outcome (record { session = s; refusal = Taken; taken = 0; written = 0 }) (screen chars attrs) [] ≡ opened m n b
+    pub open-done : {s : Session} {chars attrs marks : List ℕ} → s ≡ fresh m n
+        → chars ≡ erased true (b .chars) (b .attrs) 0 (length (b .chars)) → attrs ≡ filled 0 (length (b .attrs)) 0 (b .attrs)
+        → marks ≡ filled 0 (length (b .marks)) 0 (b .marks)
+        → outcome (record { session = s; refusal = Taken; taken = 0; written = 0 }) (screen chars attrs marks) [] ≡ opened m n b
     unfolding opened
-    open-done p c q =
-        settled-done _ _ _ e t (rw (p, c, q, all-spaces (b .attrs) (b .chars), all-zeros (b .attrs), open-sizes .2, open-sizes .3))
+    open-done p c q k =
+        settled-done _ _ _ e t
+        (rw (p, c, q, k, all-spaces (b .attrs) (b .chars), all-zeros (b .attrs), all-zeros (b .marks), open-sizes .2, open-sizes .3, open-sizes .4))

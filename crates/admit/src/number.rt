@@ -19,5 +19,6 @@ pub fn number_of(refusal: Refusal) -> u8
         Refusal::DetOff => 8,
         Refusal::NoMeaning => 9,
         Refusal::LineFull => 10,
+        Refusal::BadMark => 11,
     }
 }

@@ -9,7 +9,7 @@ use crate::refuse::refuse_sizes;
 use command::facility::no_maps;
 use command::held::none;
 use edit::range::erase;
-use edit::range::format;
+use edit::range::fill;
 use pad::line::EditLine;
 use pad::message::idle;
 use pad::parameter::start;
@@ -75,18 +75,26 @@ pub fn refused(session: Session, refusal: Refusal) -> Answer
     }
 }
 
-// A fresh session of these sizes, a space in every cell and every attribute byte 0. The sizes are wide, so that nothing a caller passes
-// is cut off.
-pub fn open(width: usize, height: usize, chars: &mut [u8], attrs: &mut [u8]) -> Answer
-    ensures { λ r. ⌜ outcome r (lent (chars .exit) (attrs .exit)) [] ≡ opened width height (lent (chars .entry) (attrs .entry)) ⌝ }
+// A fresh session of these sizes, a space in every cell, every attribute byte 0 and no mark. The sizes are wide, so that nothing a caller
+// passes is cut off.
+pub fn open(
+    width: usize,
+    height: usize,
+    chars: &mut [u8],
+    attrs: &mut [u8],
+    marks: &mut [u8],
+) -> Answer
+    ensures { λ r. ⌜ outcome r (lent (chars .exit) (attrs .exit) (marks .exit)) []
+        ≡ opened width height (lent (chars .entry) (attrs .entry) (marks .entry)) ⌝ }
 {
-    let why = refuse_sizes(width, height, chars, attrs);
+    let why = refuse_sizes(width, height, chars, attrs, marks);
     let Refusal::Taken = why else {
         return refused(fresh_session(0, 0), why);
     };
     let session = fresh_session(width as u8, height as u8);
     erase(true, chars, attrs, 0, chars.len());
-    format(attrs, 0, attrs.len(), 0);
+    fill(attrs, 0, attrs.len(), 0);
+    fill(marks, 0, marks.len(), 0);
     Answer {
         session: session,
         refusal: Refusal::Taken,

@@ -1,9 +1,22 @@
 // What every operation asks of its sizes, session and buffers, in document 01's order.
 ghost use mathlib.Core.Path.{_≡_};
 ghost use mathlib.Core.Bool.{not, _||_};
-ghost use Prim.Native.Nat.{min, max};
+ghost use mathlib.Core.List.{List};
+ghost use Prim.Native.Nat.{ℕ, min, max};
 ghost use lib.Dec.{leb};
-ghost use Rattle.rules.specs.Session.{sizesOk, cells, replyRoom, x3Cells, freshFrame, allPrintable, padOk, sessionOk, state};
+ghost use Rattle.rules.specs.Session.{
+  sizesOk,
+  cells,
+  replyRoom,
+  x3Cells,
+  freshFrame,
+  allPrintable,
+  allMarks,
+  padOk,
+  sessionOk,
+  screen,
+  state,
+};
 ghost use Rattle.rules.specs.Refusal.{verdict, sizeTests, stateTests};
 ghost use Rattle.rules.specs.Operation.{hostRefusal};
 ghost use Rattle.command.specs.Frame.{lent};
@@ -52,6 +65,19 @@ fn all_printable(chars: &[u8]) -> bool
         i += 1;
     }
     32 <= low && high <= 126
+}
+
+// Each mark is 0 or 1, by the greatest of them.
+fn all_marks(marks: &[u8]) -> bool
+    ensures { λ r. ⌜ r ≡ allMarks (now (marks .entry)) ⌝ }
+{
+    let mut high = 0;
+    let mut i = 0;
+    while i < marks.len() {
+        high = greater(high, marks[i]);
+        i += 1;
+    }
+    high <= 1
 }
 
 // Option 30 is off, or there are cells enough for a full edit line to fit the reply room.
@@ -104,16 +130,16 @@ fn session_ok(session: Session) -> bool
     pad_ok(pad)
 }
 
-// The worst single reply: 7C + 2.
+// The worst single reply: 9C.
 pub fn reply_room(frame: Frame) -> usize
     ensures { λ r. ⌜ r ≡ replyRoom frame ⌝ }
 {
-    7 * (frame.height as usize * frame.width as usize) + 2
+    9 * (frame.height as usize * frame.width as usize)
 }
 
 // Refusals 1 and 2, all that open has.
-pub fn refuse_sizes(m: usize, n: usize, chars: &[u8], attrs: &[u8]) -> Refusal
-    ensures { λ r. ⌜ r ≡ verdict (sizeTests (freshFrame m n) (lent (chars .entry) (attrs .entry))) ⌝ }
+pub fn refuse_sizes(m: usize, n: usize, chars: &[u8], attrs: &[u8], marks: &[u8]) -> Refusal
+    ensures { λ r. ⌜ r ≡ verdict (sizeTests (freshFrame m n) (lent (chars .entry) (attrs .entry) (marks .entry))) ⌝ }
 {
     let sized = sizes_ok(m, n);
     if !sized {
@@ -125,12 +151,16 @@ pub fn refuse_sizes(m: usize, n: usize, chars: &[u8], attrs: &[u8]) -> Refusal
     if attrs.len() != n * m {
         return Refusal::BufferLength;
     }
+    if marks.len() != n * m {
+        return Refusal::BufferLength;
+    }
     Refusal::Taken
 }
 
-// Refusals 3 to 5.
-fn refuse_state(session: Session, chars: &[u8], reply: &[u8]) -> Refusal
-    ensures { λ r. ⌜ r ≡ verdict (stateTests session (now (chars .entry)) (now (reply .entry))) ⌝ }
+// Refusals 3, 4, 11 and 5.
+fn refuse_state(session: Session, chars: &[u8], marks: &[u8], reply: &[u8]) -> Refusal
+    ensures { λ r. ⌜ ((attrs : List ℕ)
+        → r ≡ verdict (stateTests session (screen (now (chars .entry)) attrs (now (marks .entry))) (now (reply .entry)))) ⌝ }
 {
     let printable = all_printable(chars);
     if !printable {
@@ -140,24 +170,29 @@ fn refuse_state(session: Session, chars: &[u8], reply: &[u8]) -> Refusal
     if !sound {
         return Refusal::BadSession;
     }
+    let small = all_marks(marks);
+    if !small {
+        return Refusal::BadMark;
+    }
     if reply.len() < reply_room(session.frame) {
         return Refusal::ReplyRoom;
     }
     Refusal::Taken
 }
 
-// Refusals 1 to 5, of host bytes and of a key.
-pub fn refuse(session: Session, chars: &[u8], attrs: &[u8], reply: &[u8]) -> Refusal
-    ensures { λ r. ⌜ r ≡ hostRefusal (state session (lent (chars .entry) (attrs .entry))) (now (reply .entry)) ⌝ }
+// Refusals 1 to 5 and 11, of host bytes and of a key.
+pub fn refuse(session: Session, chars: &[u8], attrs: &[u8], marks: &[u8], reply: &[u8]) -> Refusal
+    ensures { λ r. ⌜ r ≡ hostRefusal (state session (lent (chars .entry) (attrs .entry) (marks .entry))) (now (reply .entry)) ⌝ }
 {
     let why = refuse_sizes(
         session.frame.width as usize,
         session.frame.height as usize,
         chars,
         attrs,
+        marks,
     );
     let Refusal::Taken = why else {
         return why;
     };
-    refuse_state(session, chars, reply)
+    refuse_state(session, chars, marks, reply)
 }

@@ -17,6 +17,7 @@ use Rattle.rules.specs.declared.Command.the-variants.{
   CharShift,
   ReadCursor,
   Transmit,
+  TransmitModified,
   Erase,
   FormatData,
   Repeat,
@@ -29,15 +30,15 @@ use Rattle.rules.specs.Command.{valueFault}
 
 -- all commands but MOVE CURSOR, FORMAT DATA, REPEAT and 38, by their place in the enum
 abbrev any : List ℕ
-any = 0 ∷ 2 ∷ 3 ∷ 4 ∷ 5 ∷ 6 ∷ 7 ∷ 8 ∷ 9 ∷ 13 ∷ []
+any = 0 ∷ 2 ∷ 3 ∷ 4 ∷ 5 ∷ 6 ∷ 7 ∷ 8 ∷ 9 ∷ 10 ∷ 14 ∷ []
 
 -- they take any values
 pub any-values : (v : View) (h : Held) (c : Command) → OneOf any (tagOf the-type c) → NoFault ≡ valueFault v c h
 unfolding valueFault
 any-values v h MoveCursor o = absurd (miss any 1 tt o)
-any-values v h FormatData o = absurd (miss any 10 tt o)
-any-values v h Repeat o = absurd (miss any 11 tt o)
-any-values v h SuppressProtection o = absurd (miss any 12 tt o)
+any-values v h FormatData o = absurd (miss any 11 tt o)
+any-values v h Repeat o = absurd (miss any 12 tt o)
+any-values v h SuppressProtection o = absurd (miss any 13 tt o)
 any-values v h (Facilities f) o = refl
 any-values v h SkipToLine o = refl
 any-values v h SkipToChar o = refl
@@ -46,5 +47,6 @@ any-values v h (LineShift s) o = refl
 any-values v h (CharShift s) o = refl
 any-values v h ReadCursor o = refl
 any-values v h (Transmit area) o = refl
+any-values v h TransmitModified o = refl
 any-values v h (Erase area) o = refl
 any-values v h Error o = refl

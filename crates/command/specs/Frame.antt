@@ -10,8 +10,8 @@ use Rattle.rules.specs.declared.Frame.{Frame}
 use Rattle.rules.specs.Session.{Screen, View, cells, screen, view}
 
 -- the lent screen buffers, as a call finds them or leaves them
-abbrev pub lent : RefT (List ℕ) → RefT (List ℕ) → Screen
-lent chars attrs = screen (now chars) (now attrs)
+abbrev pub lent : RefT (List ℕ) → RefT (List ℕ) → RefT (List ℕ) → Screen
+lent chars attrs marks = screen (now chars) (now attrs) (now marks)
 
 -- a frame with the attribute bytes that are lent
 abbrev pub seen : Frame → RefT (List ℕ) → View

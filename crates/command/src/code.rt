@@ -7,9 +7,9 @@ use rules::Code;
 // A code, how many parameters it takes, and what it means.
 struct Row(u8, u8, u8);
 
-const COUNT: usize = 36;
+const COUNT: usize = 37;
 
-// Document 01's list, with 6, 7, 13 and 14 of request (iii), rising by code. A code with no row is unknown.
+// Document 01's list, with 6, 7, 13 and 14 of request (iii) and 27 of request (v), rising by code. A code with no row is unknown.
 const ROWS: [Row; COUNT] = [
     Row(1, 1, EDIT_FACILITIES), // a map byte
     Row(2, 1, ERASE_FACILITIES), // a map byte
@@ -36,6 +36,7 @@ const ROWS: [Row; COUNT] = [
     Row(24, 0, TRANSMIT_REST_OF_SCREEN),
     Row(25, 0, TRANSMIT_REST_OF_LINE),
     Row(26, 0, TRANSMIT_REST_OF_FIELD),
+    Row(27, 0, TRANSMIT_MODIFIED),
     Row(29, 0, ERASE_SCREEN),
     Row(30, 0, ERASE_LINE),
     Row(31, 0, ERASE_FIELD),

@@ -45,6 +45,8 @@ pub(crate) const TRANSMIT_REST_OF_LINE: Governor = Governor::TransmitBit(2);
 pub(crate) const TRANSMIT_REST_OF_FIELD: Governor = Governor::TransmitBit(1);
 
 // of the two bytes of the format map.
+pub(crate) const MODIFIED: Governor = Governor::Format0Bit(64);
+
 pub(crate) const REPEATING: Governor = Governor::Format0Bit(16);
 
 pub(crate) const PROTECTION_ON_OFF: Governor = Governor::Format1Bit(64);
@@ -56,7 +58,7 @@ pub const OWN: Maps = Maps {
     edit: 126,
     erase: 31,
     transmit: 63,
-    format0: 144,
+    format0: 208,
     format1: 121,
 };
 

@@ -64,27 +64,29 @@ pub(crate) const TRANSMIT_REST_OF_LINE: u8 = 23;
 
 pub(crate) const TRANSMIT_REST_OF_FIELD: u8 = 24;
 
-pub(crate) const ERASE_SCREEN: u8 = 25;
+pub(crate) const TRANSMIT_MODIFIED: u8 = 25;
 
-pub(crate) const ERASE_LINE: u8 = 26;
+pub(crate) const ERASE_SCREEN: u8 = 26;
 
-pub(crate) const ERASE_FIELD: u8 = 27;
+pub(crate) const ERASE_LINE: u8 = 27;
 
-pub(crate) const ERASE_REST_OF_SCREEN: u8 = 28;
+pub(crate) const ERASE_FIELD: u8 = 28;
 
-pub(crate) const ERASE_REST_OF_LINE: u8 = 29;
+pub(crate) const ERASE_REST_OF_SCREEN: u8 = 29;
 
-pub(crate) const ERASE_REST_OF_FIELD: u8 = 30;
+pub(crate) const ERASE_REST_OF_LINE: u8 = 30;
 
-pub(crate) const ERASE_UNPROTECTED: u8 = 31;
+pub(crate) const ERASE_REST_OF_FIELD: u8 = 31;
 
-pub(crate) const FORMAT_DATA: u8 = 32;
+pub(crate) const ERASE_UNPROTECTED: u8 = 32;
 
-pub(crate) const REPEAT: u8 = 33;
+pub(crate) const FORMAT_DATA: u8 = 33;
 
-pub(crate) const SUPPRESS_PROTECTION: u8 = 34;
+pub(crate) const REPEAT: u8 = 34;
 
-pub(crate) const ERROR: u8 = 35;
+pub(crate) const SUPPRESS_PROTECTION: u8 = 35;
+
+pub(crate) const ERROR: u8 = 36;
 
 // What a code without a row means.
 pub(crate) const UNKNOWN: u8 = 255;
@@ -133,6 +135,7 @@ pub(crate) fn meaning_of(meaning: u8, n: u8) -> Code
         ),
         TRANSMIT_REST_OF_LINE => known(Transmit(RestOfLine), n, facility::TRANSMIT_REST_OF_LINE),
         TRANSMIT_REST_OF_FIELD => known(Transmit(RestOfField), n, facility::TRANSMIT_REST_OF_FIELD),
+        TRANSMIT_MODIFIED => known(TransmitModified, n, facility::MODIFIED),
         ERASE_SCREEN => known(Erase(WholeScreen), n, Ungoverned),
         ERASE_LINE => known(Erase(WholeLine), n, facility::ERASE_LINE),
         ERASE_FIELD => known(Erase(WholeField), n, facility::ERASE_FIELD),

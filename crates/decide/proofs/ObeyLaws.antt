@@ -2,7 +2,8 @@
 use mathlib.Core.Path.{_≡_, refl, sym, ap, _∙_}
 use mathlib.Core.Bool.{Bool, true, false}
 use mathlib.Core.List.{[], _∷_}
-use Prim.Native.Nat.{ℕ, zero, suc, _≤_, _<_}
+use Prim.Native.Nat.{ℕ, zero, suc, _*_, _≤_, _<_}
+use native.Mathlib.Nat.{mul-le-mul-right}
 use native.Mathlib.Omega.{arith}
 use lib.ListN.{length}
 use types.Run.{OneOf, miss}
@@ -24,7 +25,7 @@ use Rattle.rules.specs.declared.Frame.{Frame}
 use Rattle.rules.specs.declared.Held.{Held}
 use Rattle.rules.specs.Session.{View, cells, cursorCell, screenEnd, withAttrs}
 use Rattle.rules.specs.Command.{Row, Listed, listed, unlisted, meaning, codeIn, faultOf}
-use Rattle.rules.specs.Effect.{Effect}
+use Rattle.rules.specs.Effect.{Effect, kept}
 use Rattle.rules.specs.Cursor.{cursorGuarded, homeCell, backTabCell, firstFieldCell, nextFieldCell, previousOpenCell}
 use Rattle.rules.specs.Telnet.{hostCharacter, hostCharacters}
 use Rattle.rules.specs.Subcommand.{cursorSpanEnd, shifting, cursorLineStart, linesGuarded, lineShifting, erring, judged, looked}
@@ -52,6 +53,10 @@ module _ {v : View} (fits : Fits v) where
 
   pub line-in : lineEnd (v .frame .width) (v .frame .cursor .y) ≤ length (v .attrs)
   line-in = rw (fits .long) (line-within (v .frame .width) (fits .on .y))
+
+  -- a byte can number the line of every cell
+  pub lines-numbered : v .frame .height ≤ 256 → length (v .attrs) ≤ 256 * v .frame .width
+  lines-numbered h = rw (fits .long) (mul-le-mul-right (v .frame .width) h)
 
   -- the cursor's field ends after it
   pub field-after : cursorCell v < fieldEnd (v .attrs) (cursorCell v)
@@ -114,11 +119,17 @@ unfolding hostCharacters
 repeat-silent zero v c = refl
 repeat-silent (suc n) v c = refl
 
+-- nor does it mark
+pub repeat-unmarked : (n : ℕ) (v : View) (c : ℕ) → (hostCharacters n v c) .marks ≡ kept
+unfolding hostCharacters
+repeat-unmarked zero v c = refl
+repeat-unmarked (suc n) v c = refl
+
 pub repeated : {v : View} {n c : ℕ} → Decides v (decision (v .frame) (edit.Repeat n c) Silent Keep) (λ v. hostCharacters n v c)
 repeated {v} {n} {c} = record { meaning = as-shown (hostCharacters n v c) (repeat-attrs n v c) (repeat-silent n v c); sendable = tt }
   where
     as-shown : (e : Effect) → e .view .attrs ≡ v .attrs → e .reply ≡ []
-        → record { view = withAttrs (e .view) (v .attrs); changes = e .changes; reply = []; executed = [] } ≡ shown e
+        → record { view = withAttrs (e .view) (v .attrs); changes = e .changes; marks = e .marks; reply = []; executed = [] } ≡ shown e
     as-shown e p q = rw (← p, q)
 
 -- ---- ERRORs

@@ -2,32 +2,32 @@
 use mathlib.Core.Path.{_≡_}
 use mathlib.Core.Bool.{_&&_}
 use mathlib.Core.List.{List, [], _∷_}
-use Prim.Native.Nat.{ℕ, _≤_}
+use Prim.Native.Nat.{ℕ, _+_, _*_, _≤_}
 use lib.Dec.{eqb}
 use lib.ListN.{length}
 use Rattle.words.specs.Words.{if_then_else_}
-use Rattle.edit.specs.Edits.{formatted}
+use Rattle.edit.specs.Edits.{filled}
 use Rattle.rules.specs.declared.Held.{Held}
 use Rattle.rules.specs.Number.{detOption}
 use Rattle.rules.specs.Session.{View, view, withAttrs}
-use Rattle.rules.specs.Effect.{Effect, Part, put, erase, shift, text, message, changing, quiet}
+use Rattle.rules.specs.Effect.{Effect, Part, put, erase, shift, cleared, text, message, changing, quiet, writing}
 use Rattle.rules.specs.Telnet.{answer, hostCharacters}
-use Rattle.rules.specs.Subcommand.{preface, fieldTexts, withoutFirst, subcommand}
+use Rattle.rules.specs.Subcommand.{preface, fieldTexts, withoutFirst, modifiedTexts, subcommand}
 use Rattle.command.specs.Frame.{fitting}
 use Rattle.decide.specs.declared.decision.Edit.{Edit}
 use Rattle.decide.specs.declared.decision.Edit.the-variants.{Nothing, Put, Erase, Shift, Repeat}
 use Rattle.decide.specs.declared.decision.Say.{Say}
-use Rattle.decide.specs.declared.decision.Say.the-variants.{Silent, Negotiation, Two, Three, Preface, Text, Fields}
+use Rattle.decide.specs.declared.decision.Say.the-variants.{Silent, Negotiation, Two, Three, Preface, Text, Fields, Modified}
 use Rattle.decide.specs.declared.decision.Format.{Format}
 use Rattle.decide.specs.declared.decision.Format.the-variants.{Keep, Fill}
 use Rattle.decide.specs.declared.decision.Decision.{Decision}
 
--- what becomes of the characters, and where the cursor goes with them
+-- what becomes of the characters, where the cursor goes with them, and which cells are marked
 abbrev pub edited : View → Edit → Effect
 edited v Nothing = quiet v
-edited v (Put cell c) = changing v (put cell c ∷ [])
+edited v (Put cell c) = writing v (put cell c) cell (cell + 1)
 edited v (Erase suppressed from end) = changing v (erase suppressed from end ∷ [])
-edited v (Shift s from end by) = changing v (shift s from end by ∷ [])
+edited v (Shift s from end by) = writing v (shift s from end by) from end
 edited v (Repeat n c) = hostCharacters n v c
 
 -- what is sent
@@ -39,22 +39,29 @@ partsOf attrs (Three code a b) = message (code ∷ a ∷ b ∷ []) ∷ []
 partsOf attrs (Preface p) = preface p ∷ []
 partsOf attrs (Text p from end) = preface p ∷ text from end ∷ []
 partsOf attrs (Fields p) = preface p ∷ withoutFirst (fieldTexts attrs 0 (length attrs))
+partsOf attrs (Modified width) = modifiedTexts width attrs 0 (length attrs)
 
 -- what becomes of the attribute bytes
 abbrev pub attrsOf : Format → List ℕ → List ℕ
 attrsOf Keep attrs = attrs
-attrsOf (Fill from end attr) attrs = formatted from end attr attrs
+attrsOf (Fill from end attr) attrs = filled from end attr attrs
 
 abbrev pub meant : List ℕ → Decision → Effect
 meant attrs d =
     let e = edited (view (d .frame) attrs) (d .edit) in
-    record { view = withAttrs (e .view) (attrsOf (d .format) attrs); changes = e .changes; reply = partsOf attrs (d .say); executed = [] }
+    record {
+      view = withAttrs (e .view) (attrsOf (d .format) attrs);
+      changes = e .changes;
+      marks = if d .clear then cleared else e .marks;
+      reply = partsOf attrs (d .say);
+      executed = [];
+    }
 
 -- an effect but for the commands that it executes, which no answer tells
 abbrev pub shown : Effect → Effect
-shown e = record { view = e .view; changes = e .changes; reply = e .reply; executed = [] }
+shown e = record { view = e .view; changes = e .changes; marks = e .marks; reply = e .reply; executed = [] }
 
--- a text that is sent lies on the screen
+-- a text that is sent lies on the screen; for the prefaces of 27, a byte can number the line of every cell
 abbrev pub Sendable : List ℕ → Say → Type 0
 Sendable attrs Silent = Unit {0}
 Sendable attrs (Negotiation verb option) = Unit {0}
@@ -63,6 +70,7 @@ Sendable attrs (Three code a b) = Unit {0}
 Sendable attrs (Preface p) = Unit {0}
 Sendable attrs (Text p from end) = (from ≤ end) × (end ≤ length attrs)
 Sendable attrs (Fields p) = Unit {0}
+Sendable attrs (Modified width) = length attrs ≤ 256 * width
 
 -- the decision is what the rule says of this view
 pub record Decides (v : View) (d : Decision) (rule : View → Effect) : Type 0 where

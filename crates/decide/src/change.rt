@@ -39,7 +39,7 @@ fn erase_range(frame: Frame, from: usize, end: usize) -> Decision
     )
 }
 
-// 29: all spaces, attributes 0, cursor (0,0).
+// 29: all spaces, attributes 0, marks 0, cursor (0,0).
 fn erase_screen(frame: Frame, attrs: &[u8]) -> Decision
     requires { ⌜ Fits (seen frame attrs) ⌝ }
     ensures { λ r. ⌜ Decides (seen frame (attrs .entry)) r (λ v. erasure v Area.WholeScreen) ⌝ }
@@ -57,22 +57,26 @@ fn erase_screen(frame: Frame, attrs: &[u8]) -> Decision
             end: attrs.len(),
             attr: 0,
         },
+        clear: true,
     }
 }
 
-// 35: spaces in all unprotected cells, and the cursor as after 21.
+// 35: spaces in all unprotected cells, marks 0, and the cursor as after 21.
 fn erase_unprotected(frame: Frame, attrs: &[u8]) -> Decision
     requires { ⌜ Fits (seen frame attrs) ⌝ }
     ensures { λ r. ⌜ Decides (seen frame (attrs .entry)) r (λ v. erasure v Area.Unprotected) ⌝ }
 {
-    editing(
-        sent_to(frame, attrs, Destination::FirstField),
-        Edit::Erase {
+    Decision {
+        frame: sent_to(frame, attrs, Destination::FirstField),
+        edit: Edit::Erase {
             suppressed: false,
             from: 0,
             end: attrs.len(),
         },
-    )
+        say: Say::Silent,
+        format: Format::Keep,
+        clear: true,
+    }
 }
 
 pub(crate) fn erase(frame: Frame, attrs: &[u8], area: Area) -> Decision

@@ -6,7 +6,7 @@ use rules::Frame;
 use screen::cell::Place;
 use telnet::Verb;
 
-// What becomes of the characters.
+// What becomes of the characters. (Request (v): `Put`, a typed character, and `Shift` mark the cells that they write.)
 pub enum Edit {
     Nothing,
     Put {
@@ -58,6 +58,10 @@ pub enum Say {
         end: usize,
     },
     Fields(Place),
+    // request (v): every unprotected field with a marked cell, each behind a preface of its own
+    Modified {
+        width: u8,
+    },
 }
 
 // What becomes of the attribute bytes.
@@ -71,6 +75,8 @@ pub struct Decision {
     pub edit: Edit,
     pub say: Say,
     pub format: Format,
+    // all marks are cleared
+    pub clear: bool,
 }
 
 pub(crate) fn quiet(frame: Frame) -> Decision
@@ -81,6 +87,7 @@ pub(crate) fn quiet(frame: Frame) -> Decision
         edit: Edit::Nothing,
         say: Say::Silent,
         format: Format::Keep,
+        clear: false,
     }
 }
 
@@ -92,6 +99,7 @@ pub(crate) fn saying(frame: Frame, say: Say) -> Decision
         edit: Edit::Nothing,
         say: say,
         format: Format::Keep,
+        clear: false,
     }
 }
 
@@ -103,5 +111,6 @@ pub(crate) fn editing(frame: Frame, edit: Edit) -> Decision
         edit: edit,
         say: Say::Silent,
         format: Format::Keep,
+        clear: false,
     }
 }

@@ -25,6 +25,7 @@ use crate::decision::Say;
 use crate::decision::editing;
 use crate::decision::quiet;
 use crate::decision::saying;
+use crate::transmit::send_modified;
 use crate::transmit::transmit;
 use command::code::command_of;
 use command::facility::OWN;
@@ -125,6 +126,7 @@ fn format_data(frame: Frame, held: Held) -> Decision
             end: format_end(frame, held),
             attr: first_parameter(held),
         },
+        clear: false,
     }
 }
 
@@ -183,6 +185,7 @@ fn obey(frame: Frame, attrs: &[u8], command: Command, held: Held) -> Decision
         Command::CharShift(shift) => char_shift(frame, attrs, shift),
         Command::ReadCursor => read_cursor(frame),
         Command::Transmit(area) => transmit(frame, attrs, area),
+        Command::TransmitModified => send_modified(frame, attrs),
         Command::Erase(area) => erase(frame, attrs, area),
         Command::FormatData => format_data(frame, held),
         Command::Repeat => editing(

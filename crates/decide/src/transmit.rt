@@ -1,8 +1,8 @@
-// Transmissions, 20 to 26: a preface, and the text of a range of cells.
+// Transmissions, 20 to 27: prefaces, and the texts of ranges of cells.
 ghost use mathlib.Core.Path.{_≡_};
 ghost use Prim.Native.Nat.{_≤_};
 ghost use Rattle.screen.specs.Cells.{cellOf};
-ghost use Rattle.rules.specs.Subcommand.{fieldFrom, transmitted};
+ghost use Rattle.rules.specs.Subcommand.{fieldFrom, transmitted, transmittedModified};
 ghost use Rattle.command.specs.Frame.{seen};
 ghost use Rattle.command.specs.inner.Frame.{Fits};
 ghost use Rattle.decide.specs.Decision.{Decides};
@@ -72,6 +72,20 @@ fn send_unprotected(frame: Frame, attrs: &[u8]) -> Decision
     let next = sent_to(frame, attrs, Destination::FirstField);
     let place = next.cursor;
     saying(next, Say::Fields(place))
+}
+
+// 27 (request (v)): every unprotected field with a marked cell. The marks are read when the reply is written, and are then cleared.
+pub(crate) fn send_modified(frame: Frame, attrs: &[u8]) -> Decision
+    requires { ⌜ Fits (seen frame attrs) ⌝ }
+    ensures { λ r. ⌜ Decides (seen frame (attrs .entry)) r (λ v. transmittedModified v) ⌝ }
+{
+    Decision {
+        frame: sent_to(frame, attrs, Destination::FirstField),
+        edit: Edit::Nothing,
+        say: Say::Modified { width: frame.width },
+        format: Format::Keep,
+        clear: true,
+    }
 }
 
 // 23, 26: the cursor's field from a cell on; on a guarded cell nothing follows the preface.

@@ -5,12 +5,12 @@ use mathlib.Core.List.{List, [], _∷_, _++_}
 use Prim.Native.Nat.{ℕ, zero, suc, _-_, _≤_, _<_}
 use native.Mathlib.Nat.{not-suc-le-zero}
 use native.Mathlib.Omega.{arith}
-use types.Run.{OneOf}
+use types.Run.{OneOf, miss}
 use denote.Enum.Declared.{tagOf}
 use Rattle.words.proofs.Laws.{either}
 use Rattle.rules.specs.declared.Frame.{Frame}
-use Rattle.rules.specs.Session.{Screen, View, screen, view}
-use Rattle.rules.specs.Effect.{Effect, changedAll, changing}
+use Rattle.rules.specs.Session.{View, view}
+use Rattle.rules.specs.Effect.{Effect, changedAll, marking, changing}
 use Rattle.rules.specs.Telnet.{hostCharacter, hostCharacters}
 use Rattle.rules.specs.Cursor.{cursorGuarded}
 use Rattle.rules.proofs.Characters.{changed-append}
@@ -18,7 +18,7 @@ use Rattle.decide.proofs.decision.Edit.{the-type}
 use Rattle.decide.specs.declared.decision.Edit.{Edit}
 use Rattle.decide.specs.declared.decision.Edit.the-variants.{Nothing, Put, Erase, Shift, Repeat}
 use Rattle.decide.specs.Decision.{edited}
-use Rattle.decide.specs.inner.Decision.{changesOf, Once}
+use Rattle.decide.specs.inner.Decision.{changesOf, marksOf, Once}
 use Rattle.text.specs.Text.{Changes}
 
 -- what the other arm of a match on Repeat knows
@@ -31,14 +31,33 @@ not-repeat (Repeat n c) h v =
     absurd (⊎-elim (λ p. omega arith) (⊎-elim (λ p. omega arith) (⊎-elim (λ p. omega arith) (λ p. omega arith))) h)
 
 -- a edit that is done at once leaves the frame as it is
-pub changes-once : (edit : Edit) {f : Frame} {b : Screen} {chars : List ℕ} → Once edit
-    → chars ≡ changedAll (b .chars) (b .attrs) (changesOf edit) → Changes (edited (view f (b .attrs)) edit) b f chars
-changes-once edit {f} {b} once e = rw (once (view f (b .attrs))) (record { frame = refl; characters = e })
+pub changes-once : (edit : Edit) {f : Frame} {chars attrs chars′ : List ℕ} → Once edit
+    → chars′ ≡ changedAll chars attrs (changesOf edit) → Changes (edited (view f attrs) edit) chars attrs f chars′
+changes-once edit {f} {attrs = attrs} once e = rw (once (view f attrs)) (record { frame = refl; characters = e })
 
 -- and no edit the characters too
-pub changes-none : (f : Frame) (b : Screen) → Changes (edited (view f (b .attrs)) Nothing) b f (b .chars)
+pub changes-none : (f : Frame) (chars attrs : List ℕ) → Changes (edited (view f attrs) Nothing) chars attrs f chars
 unfolding changedAll
-changes-none f b = changes-once Nothing (λ v. refl) refl
+changes-none f chars attrs = changes-once Nothing (λ v. refl) refl
+
+-- what an edit marks
+pub marks-of : (v : View) (edit : Edit) → (edited v edit) .marks ≡ marksOf edit
+unfolding hostCharacters
+marks-of v Nothing = refl
+marks-of v (Put cell c) = refl
+marks-of v (Erase suppressed from end) = refl
+marks-of v (Shift s from end by) = refl
+marks-of v (Repeat zero c) = refl
+marks-of v (Repeat (suc n) c) = refl
+
+-- all but a typed character and a shift mark nothing
+pub marks-none : (edit : Edit) (marks : List ℕ) → OneOf (0 ∷ 2 ∷ 4 ∷ []) (tagOf the-type edit) → marks ≡ marking marks (marksOf edit)
+unfolding marking
+marks-none Nothing marks h = refl
+marks-none (Put cell c) marks h = absurd (miss (0 ∷ 2 ∷ 4 ∷ []) 1 tt h)
+marks-none (Erase suppressed from end) marks h = refl
+marks-none (Shift s from end by) marks h = absurd (miss (0 ∷ 2 ∷ 4 ∷ []) 3 tt h)
+marks-none (Repeat n c) marks h = refl
 
 -- ---- REPEAT
 
@@ -56,8 +75,8 @@ one-less (suc k) v c h = let e : suc k - 1 ≡ k = omega arith in rw e
 
 -- n characters from a frame and these characters on: what k more do from here is what they all do
 pub record Repeating (attrs : List ℕ) (c n : ℕ) (f₀ : Frame) (chars₀ : List ℕ) (k : ℕ) (f : Frame) (chars : List ℕ) : Type 0 where
-  pub all : {f′ : Frame} {chars′ : List ℕ} → Changes (hostCharacters k (view f attrs) c) (screen chars attrs) f′ chars′
-      → Changes (hostCharacters n (view f₀ attrs) c) (screen chars₀ attrs) f′ chars′
+  pub all : {f′ : Frame} {chars′ : List ℕ} → Changes (hostCharacters k (view f attrs) c) chars attrs f′ chars′
+      → Changes (hostCharacters n (view f₀ attrs) c) chars₀ attrs f′ chars′
 
 pub repeating-start : {attrs : List ℕ} {c n : ℕ} {f : Frame} {chars : List ℕ} → Repeating attrs c n f chars n f chars
 repeating-start = record { all = λ d. d }
@@ -65,7 +84,7 @@ repeating-start = record { all = λ d. d }
 module _ {attrs : List ℕ} {c n : ℕ} {f₀ : Frame} {chars₀ : List ℕ} {k : ℕ} {f : Frame} {chars : List ℕ}
     (r : Repeating attrs c n f₀ chars₀ k f chars) where
   -- one more is done
-  pub repeating-more : {f′ : Frame} {chars′ : List ℕ} → 0 < k → Changes (hostCharacter (view f attrs) c) (screen chars attrs) f′ chars′
+  pub repeating-more : {f′ : Frame} {chars′ : List ℕ} → 0 < k → Changes (hostCharacter (view f attrs) c) chars attrs f′ chars′
       → Repeating attrs c n f₀ chars₀ (k - 1) f′ chars′
   repeating-more {f′} h one = record {
     all = λ d.
@@ -79,6 +98,6 @@ module _ {attrs : List ℕ} {c n : ℕ} {f₀ : Frame} {chars₀ : List ℕ} {k 
   }
 
   -- none is left
-  pub repeating-end : k ≤ 0 → Changes (hostCharacters n (view f₀ attrs) c) (screen chars₀ attrs) f chars
+  pub repeating-end : k ≤ 0 → Changes (hostCharacters n (view f₀ attrs) c) chars₀ attrs f chars
   unfolding hostCharacters changedAll
   repeating-end h = let e : k ≡ 0 = omega arith in r .all (rw e (record { frame = refl; characters = refl }))

@@ -38,7 +38,7 @@ use Rattle.det.specs.inner.Data.{detEffect}
 use Rattle.det.specs.inner.Apply.{Applies, Answerable}
 use Rattle.det.specs.inner.Take.{Accepts, freshWith, AcceptsTurn, inMessage, Taking, QuietRun, QuietTurns, Tells, Turns, hostTaken}
 use Rattle.words.proofs.StoredLaws.{emitted-none, emitted-length, emitted-then, emitted-whole}
-use Rattle.det.proofs.TakeLaws.{accepted, det-effect, byte-answerable, byte-state, byte-replies}
+use Rattle.det.proofs.TakeLaws.{accepted, fits-worst, det-effect, byte-answerable, byte-state, byte-replies}
 
 -- ---- none, and some after others
 
@@ -90,7 +90,7 @@ module _ (s : State) (reply : List ℕ) (at : ℕ) (a : Accepts s reply at) wher
         record {
           onward = omega arith;
           within = omega arith;
-          room = omega (arith, p .next, room-byte (accepted s reply at a .sound) b, free);
+          room = omega (arith, p .next, fits-worst s reply at a (room-byte (accepted s reply at a .sound) b));
           state = after ∙ rw ran;
           replies = rw ran p;
           count = rw (after, left) (omega (arith, taken-step s (length reply - at) input from h free));
@@ -106,7 +106,7 @@ module _ (s : State) (reply : List ℕ) (at : ℕ) (a : Accepts s reply at) wher
           record {
             onward = r .onward;
             within = r .within;
-            room = omega (arith, free);
+            room = omega (arith, fits-worst s reply at a {n = 0} (omega arith));
             state = ap (λ (q : Ran). q .state) (sym (r .ran));
             replies = rw (r .ran) emitted-none;
             count = omega (arith, rw (part-rest input (r .onward), r .ran) at count, long);
@@ -138,7 +138,7 @@ pub accepts-turn : (f : Frame) (r : Reader) (p : Pad) (lf : Bool) (b : Screen) (
 accepts-turn f r p lf b reply at a =
     let k = accepted (state (session f r p) b) reply at a in
     let s = k .sound in
-    passes (record { view = s .view; held = s .held; pad = fresh-sound lf; chars = s .chars }) (drop at reply) (k .room)
+    passes (record { view = s .view; held = s .held; pad = fresh-sound lf; chars = s .chars; marks = s .marks }) (drop at reply) (k .room)
 
 -- ---- what is told next
 

@@ -6,6 +6,7 @@ use Prim.Native.Nat.{ℕ, _≤_}
 use native.Mathlib.Nat.{zero-add}
 use native.Mathlib.Omega.{arith}
 use lib.ListN.{length}
+use Rattle.words.specs.Words.{if_then_else_}
 use Rattle.rules.specs.declared.Refusal.{Refusal}
 use Rattle.rules.specs.declared.Refusal.the-variants.{Taken}
 use Rattle.rules.specs.declared.Key.{Key}
@@ -14,7 +15,8 @@ use Rattle.rules.specs.declared.Frame.{Frame}
 use Rattle.rules.specs.declared.Pad.{Pad}
 use Rattle.rules.specs.Session.{State, View, session, screen, view, viewOf}
 use Rattle.rules.specs.Refusal.{isTaken, verdict, sizeTests, stateTests}
-use Rattle.rules.specs.Effect.{Effect, changedAll, spelled, spelledAll}
+use Rattle.rules.specs.Effect.{Effect, changedAll, cleared, marking, spelled, spelledAll}
+use Rattle.rules.specs.Cursor.{cursorGuarded}
 use Rattle.rules.specs.Telnet.{hostText}
 use Rattle.rules.specs.Pad.{takesKey, lineTests, padTyped, sentAt, echoedAt, typedTo}
 use Rattle.rules.specs.Subcommand.{transmitted}
@@ -25,6 +27,7 @@ use Rattle.rules.proofs.Sound.{Accepted, sound-of, passes}
 use Rattle.rules.proofs.Room.{room-key}
 use Rattle.decide.specs.declared.decision.Decision.{Decision}
 use Rattle.decide.specs.Decision.{edited, partsOf, meant, shown, Decides, whereFits}
+use Rattle.decide.specs.inner.Decision.{marksOf}
 use Rattle.decide.specs.Writing.{pressedIfTaken}
 use Rattle.reply.specs.Written.{Wrote}
 use Rattle.reply.specs.Pieces.{sayPieces}
@@ -32,13 +35,15 @@ use Rattle.reply.specs.inner.Reply.{Sayable}
 use Rattle.reply.proofs.ReplyLaws.{said}
 use Rattle.text.specs.Text.{Changes}
 use Rattle.det.specs.inner.Take.{Accepts, keyTaken}
+use Rattle.words.proofs.Laws.{either}
 use Rattle.words.specs.Stored.{Emitted}
 use Rattle.words.proofs.StoredLaws.{emitted-whole}
-use Rattle.text.proofs.TextLaws.{text-keeps}
+use Rattle.text.proofs.TextLaws.{text-keeps, text-marks}
 use Rattle.admit.proofs.RefuseLaws.{passed-on, failed-first}
 use Rattle.decide.proofs.DecideLaws.{fits-rule}
 use Rattle.decide.proofs.WriteLaws.{pressed-was}
 use Rattle.det.proofs.TakeLaws.{accepts-fits, sayable}
+use Rattle.det.proofs.ApplyLaws.{marks-of}
 
 -- the refusal of a key: of every call, or else its own
 module _ (s : State) (reply : List ℕ) (code : ℕ) {why : Refusal} (e : why ≡ hostRefusal s reply) where
@@ -67,7 +72,7 @@ keeps-attributes v (Typed c) = refl
 keeps-attributes v Back = refl
 keeps-attributes v Tab = refl
 keeps-attributes v Send = refl
-keeps-attributes v Delete = refl
+keeps-attributes v Delete = either (λ (e : Effect). v .attrs ≡ e .view .attrs) (cursorGuarded v) (λ g. refl) (λ g. refl)
 keeps-attributes v (Function n) = refl
 keeps-attributes v Meaningless = refl
 
@@ -98,26 +103,34 @@ module _ (s : State) (reply : List ℕ) (code : ℕ) (p : keyRefusal s reply cod
     parts : partsOf (s .screen .attrs) (d .say) ≡ (pressed (viewOf s) (keyOf code)) .reply
     parts = ap (λ (o : Effect). o .reply) key-means
 
+    -- what it marks
+    key-marks : marking (s .screen .marks) (if d .clear then cleared else marksOf (d .edit))
+        ≡ marking (s .screen .marks) ((pressed (viewOf s) (keyOf code)) .marks)
+    key-marks =
+        rw (← marks-of (view (d .frame) (s .screen .attrs)) (d .edit)) (ap (λ (x : Effect). marking (s .screen .marks) (x .marks)) key-means)
+
     -- the reply can be written
-    key-sayable : Sayable (d .say) (s .screen .chars) (s .screen .attrs) reply 0
+    key-sayable : Sayable (d .say) (s .screen) reply 0
     key-sayable = sayable s reply 0 permits-accepts (t .sendable) (rw (← parts) at (rw does at (room-key (found .sound) code)))
 
     -- and what is done is what the key does
-    pub key-settled : {f : Frame} {chars reply′ : List ℕ} {written : ℕ}
-        → Wrote reply 0 (sayPieces (s .screen .chars) (s .screen .attrs) (d .say)) reply′ written
-        → Changes (edited (view (d .frame) (s .screen .attrs)) (d .edit)) (s .screen) f chars
+    pub key-settled : {f : Frame} {chars marks reply′ : List ℕ} {written : ℕ} → let b = s .screen in
+        Wrote reply 0 (sayPieces (b .chars) (b .attrs) (b .marks) (d .say)) reply′ written
+        → Changes (edited (view (d .frame) (b .attrs)) (d .edit)) (b .chars) (b .attrs) f chars
+        → marks ≡ marking (b .marks) (if d .clear then cleared else marksOf (d .edit))
         → outcome (record { session = session f (s .session .reader) (s .session .pad); refusal = Taken; taken = 1; written = written })
-        (screen chars (s .screen .attrs)) reply′
+        (screen chars (s .screen .attrs) marks) reply′
         ≡ keyTaken s reply code
-    key-settled m c =
+    key-settled m c k =
         let emitted = rw parts at (said key-sayable m) in
         let frame = c .frame ∙ ap (λ (x : Effect). x .view .frame) key-means in
         let chars = c .characters ∙ ap (λ (x : Effect). changedAll (s .screen .chars) (s .screen .attrs) (x .changes)) key-means in
+        let marks = k ∙ key-marks in
         let written = emitted .next ∙ zero-add _ in
         let reply = emitted-whole (rw parts at (key-sayable .room)) emitted in
         rw off (λ i. outcome
         (record { session = session (frame i) (s .session .reader) (s .session .pad); refusal = Taken; taken = 1; written = written i })
-        (screen (chars i) (keeps-attributes (viewOf s) (keyOf code) i)) (reply i))
+        (screen (chars i) (keeps-attributes (viewOf s) (keyOf code) i) (marks i)) (reply i))
 
   module _ (on : takesKey (s .session .frame) code ≡ true) where
     line-effect : pressEffect s code ≡ typedTo (viewOf s) (s .session .pad) code
@@ -130,14 +143,16 @@ module _ (s : State) (reply : List ℕ) (code : ℕ) (p : keyRefusal s reply cod
     -- what the edit line does
     pub line-settled : {f : Frame} {pad : Pad} {chars reply′ : List ℕ} {written : ℕ}
         → Emitted reply 0 (sentAt (s .session .pad) code) reply′ written
-        → Changes (hostText (viewOf s) (echoedAt (s .session .pad) code)) (s .screen) f chars → pad ≡ padTyped (s .session .pad) code
+        → Changes (hostText (viewOf s) (echoedAt (s .session .pad) code)) (s .screen .chars) (s .screen .attrs) f chars
+        → pad ≡ padTyped (s .session .pad) code
         → outcome (record { session = session f (s .session .reader) pad; refusal = Taken; taken = 1; written = written })
-        (screen chars (s .screen .attrs)) reply′
+        (screen chars (s .screen .attrs) (s .screen .marks)) reply′
         ≡ keyTaken s reply code
-    unfolding typedTo spelledAll spelled
+    unfolding typedTo spelledAll spelled marking
     line-settled e c q =
         let whole = emitted-whole (omega (arith, line-room)) e in
         let written = e .next ∙ zero-add _ in
         rw (on, append-nil) (λ i. outcome
         (record { session = session ((c .frame) i) (s .session .reader) (q i); refusal = Taken; taken = 1; written = written i })
-        (screen ((c .characters) i) (sym (text-keeps (viewOf s) (echoedAt (s .session .pad) code)) i)) (whole i))
+        (screen ((c .characters) i) (sym (text-keeps (viewOf s) (echoedAt (s .session .pad) code)) i)
+        (marking (s .screen .marks) (sym (text-marks (viewOf s) (echoedAt (s .session .pad) code)) i))) (whole i))

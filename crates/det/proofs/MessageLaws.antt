@@ -27,7 +27,7 @@ use Rattle.rules.specs.declared.Reader.{Reader}
 use Rattle.rules.specs.declared.Pad.{Pad}
 use Rattle.rules.specs.Number.{x3Option}
 use Rattle.rules.specs.Session.{Screen, State, View, session, state, view}
-use Rattle.rules.specs.Effect.{Effect, bytes, changedAll, spelled, spelledAll, saying}
+use Rattle.rules.specs.Effect.{Effect, bytes, changedAll, marking, spelled, spelledAll, saying}
 use Rattle.rules.specs.Pad.{isX3, counts, padAfter, response}
 use Rattle.rules.specs.Operation.{happening, hostByte, readerAfter}
 use Rattle.reply.specs.Written.{Wrote}
@@ -75,35 +75,35 @@ says v r p EndBare i = absurd i
 says v r p Lost i = refl
 
 -- the answer, written in pieces
-module _ {reply : List ℕ} {at : ℕ} {reply′ : List ℕ} {at′ : ℕ} (chars : List ℕ) (payload : List ℕ) where
-  written : (asked : Bool) → Room reply at (spelledAll chars (if asked then bytes (subnegotiation x3Option payload) ∷ [] else []))
+module _ {reply : List ℕ} {at : ℕ} {reply′ : List ℕ} {at′ : ℕ} (b : Screen) (payload : List ℕ) where
+  written : (asked : Bool) → Room reply at (spelledAll b (if asked then bytes (subnegotiation x3Option payload) ∷ [] else []))
       → Wrote reply at (if asked then messagePieces x3Option payload else []) reply′ at′
-      → Emitted reply at (spelledAll chars (if asked then bytes (subnegotiation x3Option payload) ∷ [] else [])) reply′ at′
+      → Emitted reply at (spelledAll b (if asked then bytes (subnegotiation x3Option payload) ∷ [] else [])) reply′ at′
   unfolding spelledAll spelled
   written true room w = rw append-nil (responded payload (rw append-nil at room) w)
   written false room w = wrote-emitted [] room w
 
-answered : (v : View) (r : Reader) (p : Pad) (e : Event) → InMessage e → (chars : List ℕ) {reply : List ℕ} {at : ℕ} {reply′ : List ℕ} {at′ : ℕ}
-    → Room reply at (spelledAll chars ((happening v r p e) .reply)) → Wrote reply at (answerPieces (v .frame) p e) reply′ at′
-    → Emitted reply at (spelledAll chars ((happening v r p e) .reply)) reply′ at′
+answered : (v : View) (r : Reader) (p : Pad) (e : Event) → InMessage e → (b : Screen) {reply : List ℕ} {at : ℕ} {reply′ : List ℕ} {at′ : ℕ}
+    → Room reply at (spelledAll b ((happening v r p e) .reply)) → Wrote reply at (answerPieces (v .frame) p e) reply′ at′
+    → Emitted reply at (spelledAll b ((happening v r p e) .reply)) reply′ at′
 unfolding happening response answerPieces
-answered v r p Nothing i chars room w = written chars [] false room w
-answered v r p (Data b) i chars room w = absurd i
-answered v r p (Negotiation verb option) i chars room w = absurd i
-answered v r p (Begin option) i chars room w = absurd i
-answered v r p (Sub option b) i chars room w = written chars [] false room w
-answered v r p (End option) i chars room w =
+answered v r p Nothing i b room w = written b [] false room w
+answered v r p (Data c) i b room w = absurd i
+answered v r p (Negotiation verb option) i b room w = absurd i
+answered v r p (Begin option) i b room w = absurd i
+answered v r p (Sub option c) i b room w = written b [] false room w
+answered v r p (End option) i b room w =
     let e = eqb-true option x3Option i in
     let asked = v .frame .x3 && (ended (p .values) (p .message)) .asked in
-    rw e (written chars (responseOf (p .values)) asked (rw e at room) (rw e at w))
-answered v r p EndBare i chars room w = absurd i
-answered v r p Lost i chars room w = written chars [] false room w
+    rw e (written b (responseOf (p .values)) asked (rw e at room) (rw e at w))
+answered v r p EndBare i b room w = absurd i
+answered v r p Lost i b room w = written b [] false room w
 
 module _ (f : Frame) (r : Reader) (p : Pad) (b : Screen) (reply : List ℕ) (at : ℕ) (a : Accepts (state (session f r p) b) reply at)
     (i : inMessage (r .phase) ≡ true) {input : List ℕ} {from : ℕ} (h : from < length input) where
   pub message-taking : {t : PadTurn} {reply′ : List ℕ} → Reads f r p (getD input from 0) reply at t reply′
       → Taking (state (session f r p) b) input from reply at (state (session f (t .reader) (t .pad)) b) (from + 1) reply′ (t .written)
-  unfolding hostByte changedAll
+  unfolding hostByte changedAll marking
   message-taking {t} k =
       let byte = getD input from 0 in
       let s = state (session f r p) b in
@@ -112,7 +112,7 @@ module _ (f : Frame) (r : Reader) (p : Pad) (b : Screen) (reply : List ℕ) (at 
       let inside = told-in (r .phase) i byte in
       let same : state (session f (t .reader) (t .pad)) b ≡ (hostByte s byte) .state = rw (k .reader, k .pad, says v r p told inside) in
       let room = byte-answerable s reply at a byte refl .room in
-      taking-byte s reply at a h same (answered v r p told inside (b .chars) room (k .answer))
+      taking-byte s reply at a h same (answered v r p told inside b room (k .answer))
 
 -- what the other arms of a match on a phase know
 pub in-none : (p : Phase) → OneOf (0 ∷ 1 ∷ 2 ∷ 3 ∷ 4 ∷ []) (tagOf the-type p) → false ≡ inMessage p

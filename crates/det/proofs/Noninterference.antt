@@ -25,5 +25,5 @@ chain-end done = refl
 chain-end {s} (next {c = c} {o = o} h k) = rw (← meets-is s c o h) (chain-end k)
 
 pub code-noninterference : CodeNoninterference
-code-noninterference s attrs c d calls first second effect clean-first clean-second alike none k q =
-    rw (chain-answers k, chain-answers q, chain-end k, chain-end q) (noninterference s attrs c d calls effect clean-first clean-second alike none)
+code-noninterference s attrs marks c d calls first second effect clean-first clean-second alike none k q =
+    rw (chain-answers k, chain-answers q, chain-end k, chain-end q) (noninterference s attrs marks c d calls effect clean-first clean-second alike none)

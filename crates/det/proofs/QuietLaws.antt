@@ -27,7 +27,7 @@ use Rattle.rules.specs.declared.Frame.{Frame}
 use Rattle.rules.specs.declared.Reader.{Reader}
 use Rattle.rules.specs.declared.Pad.{Pad}
 use Rattle.rules.specs.Session.{noneHeld, Screen, State, View, lineTakesKeys, session, screen, state, view}
-use Rattle.rules.specs.Effect.{Effect, changedAll, spelledAll, quiet}
+use Rattle.rules.specs.Effect.{Effect, changedAll, marking, spelledAll, quiet}
 use Rattle.rules.specs.Telnet.{holding, heldAfter, crAfter, hostData, hostText}
 use Rattle.rules.specs.Pad.{isX3, withMessage, padAfter, joins, passes}
 use Rattle.rules.specs.Operation.{Ran, happening, hostByte, applied, running}
@@ -59,33 +59,33 @@ text-x3 v xs = ap (λ (w : View). w .frame .x3) (text-moves v xs)
 module _ (f : Frame) (held : Held) (cr : Bool) (p : Pad) (b : Screen) where
   -- IAC, at rest and in a subnegotiation
   rest-iac : hostByte (standing f Rest held cr p b) 255 ≡ still (standing f (readOf Rest 255 .phase) held cr p b)
-  unfolding hostByte happening heldAfter crAfter padAfter readOf changedAll spelledAll
+  unfolding hostByte happening heldAfter crAfter padAfter readOf changedAll spelledAll marking
   rest-iac = refl
 
   inside-iac : (o : ℕ) → hostByte (standing f (Inside o) held cr p b) 255 ≡ still (standing f (readOf (Inside o) 255 .phase) held cr p b)
-  unfolding hostByte happening heldAfter crAfter padAfter readOf inside changedAll spelledAll
+  unfolding hostByte happening heldAfter crAfter padAfter readOf inside changedAll spelledAll marking
   inside-iac o = refl
 
   -- SB after an IAC
   iac-sb : hostByte (standing f Iac held cr p b) 250 ≡ still (standing f Opening held cr p b)
-  unfolding hostByte happening heldAfter crAfter padAfter readOf afterIac changedAll spelledAll
+  unfolding hostByte happening heldAfter crAfter padAfter readOf afterIac changedAll spelledAll marking
   iac-sb = refl
 
   module _ {byte : ℕ} (n : byte ≡ 255 → ⊥) where
     -- any other byte after it is an option; another than 30 clears what is half read of a message
     opening-option : isX3 byte ≡ false
         → hostByte (standing f Opening held cr p b) byte ≡ still (standing f (Inside byte) noneHeld cr (withMessage p idleMessage) b)
-    unfolding hostByte happening heldAfter crAfter padAfter readOf opening changedAll spelledAll
+    unfolding hostByte happening heldAfter crAfter padAfter readOf opening changedAll spelledAll marking
     opening-option e = rw (ne-eqb _ _ n, e)
 
     -- any other byte at rest is data, passed over or obeyed
     rest-passed : passes f p cr byte ≡ true → hostByte (standing f Rest held cr p b) byte ≡ still (standing f Rest held (eqb byte 13) p b)
-    unfolding hostByte happening heldAfter crAfter padAfter readOf changedAll spelledAll
+    unfolding hostByte happening heldAfter crAfter padAfter readOf changedAll spelledAll marking
     rest-passed e = rw (ne-eqb _ _ n, e)
 
-    rest-data : passes f p cr byte ≡ false → {f′ : Frame} {chars : List ℕ} → Changes (hostData (view f (b .attrs)) byte) b f′ chars
-        → hostByte (standing f Rest held cr p b) byte ≡ still (standing f′ Rest held (eqb byte 13) p (screen chars (b .attrs)))
-    unfolding hostByte happening heldAfter crAfter padAfter readOf spelledAll
+    rest-data : passes f p cr byte ≡ false → {f′ : Frame} {chars : List ℕ} → Changes (hostData (view f (b .attrs)) byte) (b .chars) (b .attrs) f′ chars
+        → hostByte (standing f Rest held cr p b) byte ≡ still (standing f′ Rest held (eqb byte 13) p (screen chars (b .attrs) (b .marks)))
+    unfolding hostByte happening heldAfter crAfter padAfter readOf spelledAll marking
     rest-data e d =
         rw (ne-eqb _ _ n, e)
         (ap (λ (e : Effect). applied (standing f Rest held cr p b) (record { phase = Rest; held = held; cr = eqb byte 13 }) p e) (data-only (view f (b .attrs)) byte)
@@ -94,7 +94,7 @@ module _ (f : Frame) (held : Held) (cr : Bool) (p : Pad) (b : Screen) where
     -- in a subnegotiation of another option it is held
     inside-held : (option : ℕ) → isX3 option ≡ false → hostByte (standing f (Inside option) held cr p b) byte
         ≡ still (standing f (Inside option) (holding held byte) cr p b)
-    unfolding hostByte happening heldAfter crAfter padAfter readOf inside holding changedAll spelledAll
+    unfolding hostByte happening heldAfter crAfter padAfter readOf inside holding changedAll spelledAll marking
     inside-held option e = rw (ne-eqb _ _ n, e)
 
 -- ---- a list of bytes without an IAC
@@ -108,7 +108,7 @@ DataRan xs =
     (f : Frame) (held : Held) (cr : Bool) (p : Pad) (b : Screen) (j : Bool) → joins f p ≡ j →
     let e = effectOf j f cr b xs in
     running (standing f Rest held cr p b) xs
-    ≡ still (standing (e .view .frame) Rest held (endsInCr cr xs) p (screen (changedAll (b .chars) (b .attrs) (e .changes)) (b .attrs)))
+    ≡ still (standing (e .view .frame) Rest held (endsInCr cr xs) p (screen (changedAll (b .chars) (b .attrs) (e .changes)) (b .attrs) (b .marks)))
 
 none-ran : DataRan []
 unfolding running hostText changedAll joined endsInCr
@@ -121,7 +121,7 @@ more-ran x xs plain ran f held cr p b j k =
     let v = view f (b .attrs) in
     let e = hostData v x in
     let kept : e .view ≡ view (e .view .frame) (b .attrs) = ap (λ (q : Effect). q .view) (data-only v x) in
-    let after = screen (changedAll (b .chars) (b .attrs) (e .changes)) (b .attrs) in
+    let after = screen (changedAll (b .chars) (b .attrs) (e .changes)) (b .attrs) (b .marks) in
     let obeyed : passes f p cr x ≡ false → running (standing f Rest held cr p b) (x ∷ xs) ≡ running (standing (e .view .frame) Rest held (eqb x 13) p after) xs =
     λ q. rw (rest-data f held cr p b plain q (record { frame = refl; characters = refl })) in
     let still-joins : joins (e .view .frame) p ≡ j = ap (λ t. t && not (printsLf (p .values))) (data-modes v x) ∙ k in
@@ -183,17 +183,17 @@ module _ {input : List ℕ} {from : ℕ} (h : from < length input) (p : Phase) {
 
   -- data
   pub text-turn : {phase : Phase} {f f′ : Frame} {held : Held} {cr cr′ : Bool} {pad : Pad} {b : Screen} {chars : List ℕ} (at : ℕ) → phase ≡ p → p ≡ Rest
-      → (j : Bool) → joins f pad ≡ j → Changes (effectOf j f cr b (part from (t .end) input)) b f′ chars
+      → (j : Bool) → joins f pad ≡ j → Changes (effectOf j f cr b (part from (t .end) input)) (b .chars) (b .attrs) f′ chars
       → cr′ ≡ endsInCr cr (part from (t .end) input)
-      → QuietTurn (standing f phase held cr pad b) input from at (turn t f′ held cr′ at) pad (screen chars (b .attrs))
+      → QuietTurn (standing f phase held cr pad b) input from at (turn t f′ held cr′ at) pad (screen chars (b .attrs) (b .marks))
   unfolding inMessage readOf
   text-turn {f = f} {f′} {held} {cr} {cr′} {pad} {b} {chars} at o q j k c ends =
       let d = rw (e, q) at c in
       let last = rw (e, q) at ends in
       quiet-turn at
-      (rw (o, e, q) (quiet-through input from Rest (standing f Rest held cr pad b) (λ x. standing f′ x held cr′ pad (screen chars (b .attrs)))
+      (rw (o, e, q) (quiet-through input from Rest (standing f Rest held cr pad b) (λ x. standing f′ x held cr′ pad (screen chars (b .attrs) (b .marks)))
       (data-ran (bytes input from Rest) (stretch-plain input from Rest) f held cr pad b j k ∙ rw (← d .frame, ← d .characters, ← last))
-      (rest-iac f′ held cr′ pad (screen chars (b .attrs)))))
+      (rest-iac f′ held cr′ pad (screen chars (b .attrs) (b .marks)))))
       (rw (e, q) (outside-after Rest input from refl refl))
       (ap (λ (g : Frame). g .x3) (c .frame) ∙ text-x3 (view f (b .attrs)) _)
 

@@ -2,7 +2,7 @@
 use mathlib.Core.Path.{_≡_, refl, sym, ap, _∙_}
 use mathlib.Core.Bool.{Bool, true, false, not, _&&_}
 use mathlib.Core.List.{List, [], _∷_}
-use Prim.Native.Nat.{ℕ, _+_, _≤_}
+use Prim.Native.Nat.{ℕ, _+_, _≤_, _<_}
 use native.Mathlib.Omega.{arith}
 use lib.Dec.{eqb}
 use lib.ListN.{length, drop, length-drop}
@@ -21,7 +21,7 @@ use Rattle.rules.specs.declared.Refusal.{Refusal}
 use Rattle.rules.specs.declared.Refusal.the-variants.{Taken}
 use Rattle.rules.specs.Session.{Screen, State, View, lineTakesKeys, replyRoom, session, screen, state, view, viewOf}
 use Rattle.rules.specs.Refusal.{isTaken}
-use Rattle.rules.specs.Effect.{Effect, changedAll, spelledAll, changing, quiet}
+use Rattle.rules.specs.Effect.{Effect, changedAll, marking, spelledAll, changing, quiet}
 use Rattle.rules.specs.Telnet.{heldAfter, crAfter, hostData}
 use Rattle.rules.specs.Pad.{isX3, padAfter, response, passes}
 use Rattle.rules.specs.Operation.{applied, happening, hostByte, hostRefusal}
@@ -40,6 +40,7 @@ use Rattle.det.specs.inner.Data.{dataEffect, detEffect}
 use Rattle.det.specs.inner.Apply.{Applies, Answerable}
 use Rattle.det.specs.inner.Take.{Accepts}
 use Rattle.words.proofs.Laws.{either}
+use Rattle.screen.proofs.CellLaws.{cell-lt}
 use Rattle.pad.specs.Host.{printsLf}
 use Rattle.text.proofs.TextLaws.{data-only}
 use Rattle.words.proofs.StoredLaws.{emitted-none}
@@ -53,7 +54,7 @@ module _ {e : Effect} {f : Frame} {b : Screen} {reply : List ℕ} {at : ℕ} (a 
   means = p .meaning ∙ ap shown q
 
   -- the reply can be written
-  pub decided-sayable : Sayable (d .say) (b .chars) (b .attrs) reply at
+  pub decided-sayable : Sayable (d .say) b reply at
   decided-sayable =
       let parts : partsOf (b .attrs) (d .say) ≡ e .reply = ap (λ (x : Effect). x .reply) means in
       record { sendable = p .sendable; long = a .long; room = rw parts (a .room) }
@@ -66,14 +67,16 @@ module _ {e : Effect} {f : Frame} {b : Screen} {reply : List ℕ} {at : ℕ} (a 
       record {
         changes = record { frame = r .changes .frame; characters = r .changes .characters };
         attributes = r .attributes;
+        marks = r .marks;
         replies = r .replies;
       }
 
 -- nothing is done
 pub nothing-applies : {e : Effect} {f : Frame} {b : Screen} {reply : List ℕ} {at : ℕ} → e ≡ quiet (view f (b .attrs))
     → Applies e b reply at (record { frame = f; written = at }) b reply
-unfolding changedAll spelledAll
-nothing-applies q = rw q (record { changes = record { frame = refl; characters = refl }; attributes = refl; replies = emitted-none })
+unfolding changedAll spelledAll marking
+nothing-applies q =
+    rw q (record { changes = record { frame = refl; characters = refl }; attributes = refl; marks = refl; replies = emitted-none })
 
 -- the events on which nothing is done: all but data, a negotiation and an end
 pub idle : (v : View) (lf : Bool) (h : Held) (cr : Bool) (e : Event) → OneOf (0 ∷ 3 ∷ 4 ∷ 6 ∷ 7 ∷ []) (tagOf the-type e) → detEffect v lf h cr e ≡ quiet v
@@ -110,25 +113,27 @@ effect-only v lf cr b =
     ((lineTakesKeys (v .frame) && not lf) && (cr && eqb b 10)) {x = quiet v} (λ t. refl) (λ t. data-only v b)
 
 -- passed over, or obeyed
-module _ (f : Frame) (lf cr : Bool) (byte : ℕ) {b : Screen} where
-  pub data-passed : ((lineTakesKeys f && not lf) && (cr && eqb byte 10)) ≡ true → Changes (dataEffect (view f (b .attrs)) lf cr byte) b f (b .chars)
+module _ (f : Frame) (lf cr : Bool) (byte : ℕ) {chars attrs : List ℕ} where
+  pub data-passed : ((lineTakesKeys f && not lf) && (cr && eqb byte 10)) ≡ true → Changes (dataEffect (view f attrs) lf cr byte) chars attrs f chars
   unfolding dataEffect changedAll
   data-passed e = rw e (record { frame = refl; characters = refl })
 
-  pub data-obeyed : {f′ : Frame} {chars : List ℕ} → ((lineTakesKeys f && not lf) && (cr && eqb byte 10)) ≡ false
-      → Changes (hostData (view f (b .attrs)) byte) b f′ chars → Changes (dataEffect (view f (b .attrs)) lf cr byte) b f′ chars
+  pub data-obeyed : {f′ : Frame} {chars′ : List ℕ} → ((lineTakesKeys f && not lf) && (cr && eqb byte 10)) ≡ false
+      → Changes (hostData (view f attrs) byte) chars attrs f′ chars′ → Changes (dataEffect (view f attrs) lf cr byte) chars attrs f′ chars′
   unfolding dataEffect
   data-obeyed e c = rw e c
 
 pub data-applies : (f : Frame) (lf cr : Bool) (byte : ℕ) {f′ : Frame} {b : Screen} {chars reply : List ℕ} {at : ℕ}
-    → Changes (dataEffect (view f (b .attrs)) lf cr byte) b f′ chars
-    → Applies (dataEffect (view f (b .attrs)) lf cr byte) b reply at (record { frame = f′; written = at }) (screen chars (b .attrs)) reply
-unfolding spelledAll
+    → Changes (dataEffect (view f (b .attrs)) lf cr byte) (b .chars) (b .attrs) f′ chars
+    → Applies (dataEffect (view f (b .attrs)) lf cr byte) b reply at (record { frame = f′; written = at })
+    (screen chars (b .attrs) (b .marks)) reply
+unfolding spelledAll marking
 data-applies f lf cr byte {b = b} k =
     let only = effect-only (view f (b .attrs)) lf cr byte in
     record {
       changes = k;
       attributes = ap (λ (e : Effect). e .view .attrs) (sym only);
+      marks = rw (ap (λ (e : Effect). e .marks) only);
       replies = rw (ap (λ (e : Effect). e .reply) only) emitted-none;
     }
 
@@ -149,17 +154,21 @@ module _ (s : State) (reply : List ℕ) (at : ℕ) (a : Accepts s reply at) wher
       let v = accepted .sound .view in
       record { on = record { x = v .cursor .0; y = v .cursor .1 }; long = v .attrs }
 
-  -- a reply no longer than the worst fits
-  fits-worst : {n : ℕ} → n ≤ replyRoom (s .session .frame) → at + n ≤ length reply
-  fits-worst h = omega (arith, accepted .room, length-drop at reply)
+  -- there is a cell, so that there is room for some reply
+  some-room : 0 < replyRoom (s .session .frame)
+  some-room = let v = accepted .sound .view in omega (arith, cell-lt (v .cursor .0) (v .cursor .1))
+
+  -- and a reply no longer than the worst fits
+  pub fits-worst : {n : ℕ} → n ≤ replyRoom (s .session .frame) → at + n ≤ length reply
+  fits-worst h = omega (arith, accepted .room, some-room, length-drop at reply)
 
   equally-long : length (s .screen .chars) ≡ length (s .screen .attrs)
   equally-long = let k = accepted .sound in k .chars .long ∙ sym (k .view .attrs)
 
   -- what is said can be written, if it is no longer than the worst
   pub sayable : {say : Say} → Sendable (s .screen .attrs) say
-      → length (spelledAll (s .screen .chars) (partsOf (s .screen .attrs) say)) ≤ replyRoom (s .session .frame)
-      → Sayable say (s .screen .chars) (s .screen .attrs) reply at
+      → length (spelledAll (s .screen) (partsOf (s .screen .attrs) say)) ≤ replyRoom (s .session .frame)
+      → Sayable say (s .screen) reply at
   sayable t h = record { sendable = t; long = equally-long; room = fits-worst h }
 
   module _ (byte : ℕ) {step : Step} (e : step ≡ readOf (s .session .reader .phase) byte) where
@@ -191,7 +200,7 @@ module _ (s : State) (reply : List ℕ) (at : ℕ) (a : Accepts s reply at) wher
       byte-state q =
           rw (byte-is, q) (λ i. state
           (session ((h .changes .frame) i) after (padAfter (s .session .frame) (s .session .pad) (step .event)))
-          (screen ((h .changes .characters) i) ((h .attributes) i)))
+          (screen ((h .changes .characters) i) ((h .attributes) i) ((h .marks) i)))
 
       pub byte-replies : Emitted reply at ((hostByte s byte) .replies) reply′ (done .written)
       byte-replies = rw byte-is (h .replies)

@@ -28,13 +28,13 @@ end s (o ∷ os) = end (left o) os
 -- The premises are those of demand 3, and that each list of results is a chain for the calls.
 abbrev pub CodeNoninterference : Type 0
 CodeNoninterference =
-    (s : Session) (attrs c d : List ℕ) (calls : List Call) (first second : List Outcome)
+    (s : Session) (attrs marks c d : List ℕ) (calls : List Call) (first second : List Outcome)
     → s .frame .suppressed ≡ false
     → allPrintable c ≡ true
     → allPrintable d ≡ true
     → Alike attrs c d
-    → noneReaches (executedOf (state s (screen c attrs)) calls) ≡ true
-    → Chain (state s (screen c attrs)) calls first
-    → Chain (state s (screen d attrs)) calls second
+    → noneReaches (executedOf (state s (screen c attrs marks)) calls) ≡ true
+    → Chain (state s (screen c attrs marks)) calls first
+    → Chain (state s (screen d attrs marks)) calls second
     → Indistinct attrs c d (map answered first) (map answered second)
-    (end (state s (screen c attrs)) first) (end (state s (screen d attrs)) second)
+    (end (state s (screen c attrs marks)) first) (end (state s (screen d attrs marks)) second)

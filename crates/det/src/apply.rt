@@ -1,9 +1,11 @@
-// A decision is applied: the reply is written from the characters as they are, then the characters change, then the attribute bytes.
+// A decision is applied: the reply is written from the characters and marks as they are, then the characters change, then the attribute
+// bytes, then the marks.
 ghost use mathlib.Core.Path.{_≡_};
-ghost use Rattle.rules.specs.Effect.{changedAll};
+ghost use Rattle.words.specs.Words.{if_then_else_};
+ghost use Rattle.rules.specs.Effect.{changedAll, cleared, marking};
 ghost use Rattle.command.specs.Frame.{lent, seen};
 ghost use Rattle.decide.specs.Decision.{edited, attrsOf, meant};
-ghost use Rattle.decide.specs.inner.Decision.{changesOf};
+ghost use Rattle.decide.specs.inner.Decision.{changesOf, marksOf};
 ghost use Rattle.reply.specs.Pieces.{sayPieces};
 ghost use Rattle.reply.specs.Written.{Wrote};
 ghost use Rattle.reply.specs.inner.Reply.{Sayable};
@@ -15,7 +17,7 @@ use decide::decision::Edit;
 use decide::decision::Format;
 use decide::decision::Say;
 use edit::range::erase;
-use edit::range::format;
+use edit::range::fill;
 use edit::range::shift_range;
 use reply::write_reply;
 use rules::Frame;
@@ -52,7 +54,7 @@ fn change_cells(edit: Edit, chars: &mut [u8], attrs: &[u8])
 // 37: a host character so many times.
 fn repeat(frame: Frame, count: u8, byte: u8, chars: &mut [u8], attrs: &[u8]) -> Frame
     ensures { λ r. ⌜ Changes (edited (seen frame (attrs .entry)) (Edit.Repeat count byte))
-        (lent (chars .entry) (attrs .entry)) r (now (chars .exit)) ⌝ }
+        (now (chars .entry)) (now (attrs .entry)) r (now (chars .exit)) ⌝ }
 {
     let mut cursor = frame.cursor;
     let mut left = count;
@@ -66,7 +68,7 @@ fn repeat(frame: Frame, count: u8, byte: u8, chars: &mut [u8], attrs: &[u8]) -> 
 
 // The frame afterwards: REPEAT moves the cursor as it writes.
 pub(crate) fn change_chars(frame: Frame, edit: Edit, chars: &mut [u8], attrs: &[u8]) -> Frame
-    ensures { λ r. ⌜ Changes (edited (seen frame (attrs .entry)) edit) (lent (chars .entry) (attrs .entry)) r (now (chars .exit)) ⌝ }
+    ensures { λ r. ⌜ Changes (edited (seen frame (attrs .entry)) edit) (now (chars .entry)) (now (attrs .entry)) r (now (chars .exit)) ⌝ }
 {
     let Edit::Repeat { count, byte } = edit else {
         change_cells(edit, chars, attrs);
@@ -80,25 +82,53 @@ fn format_attrs(change: Format, attrs: &mut [u8])
 {
     match change {
         Format::Keep => {}
-        Format::Fill { from, end, attr } => format(attrs, from, end, attr),
+        Format::Fill { from, end, attr } => fill(attrs, from, end, attr),
+    }
+}
+
+// A typed character and a shift mark the cells that they write.
+fn mark_edited(edit: Edit, marks: &mut [u8])
+    ensures { λ _. ⌜ now (marks .exit) ≡ marking (now (marks .entry)) (marksOf edit) ⌝ }
+{
+    match edit {
+        Edit::Put { cell, byte } => set_cell(marks, cell, 1),
+        Edit::Shift {
+            shift,
+            from,
+            end,
+            by,
+        } => fill(marks, from, end, 1),
+        _ => {}
+    }
+}
+
+// All marks are cleared, or those of an edit set.
+pub(crate) fn mark(clear: bool, edit: Edit, marks: &mut [u8])
+    ensures { λ _. ⌜ now (marks .exit) ≡ marking (now (marks .entry)) (if clear then cleared else marksOf edit) ⌝ }
+{
+    if clear {
+        fill(marks, 0, marks.len(), 0);
+    } else {
+        mark_edited(edit, marks);
     }
 }
 
 // Most decisions say nothing and change no character: those take no call, and no copy of what a call is given.
-fn say_any(say: Say, chars: &[u8], attrs: &[u8], reply: &mut [u8], at: usize) -> usize
-    ensures { λ r. ⌜ Wrote (now (reply .entry)) at (sayPieces (now (chars .entry)) (now (attrs .entry)) say) (now (reply .exit)) r ⌝ }
+fn say_any(say: Say, chars: &[u8], attrs: &[u8], marks: &[u8], reply: &mut [u8], at: usize) -> usize
+    ensures { λ r. ⌜ Wrote (now (reply .entry)) at
+        (sayPieces (now (chars .entry)) (now (attrs .entry)) (now (marks .entry)) say) (now (reply .exit)) r ⌝ }
 {
     match say {
         Say::Silent => at,
         _ => {
             let spoken = say;
-            write_reply(spoken, chars, attrs, reply, at)
+            write_reply(spoken, chars, attrs, marks, reply, at)
         }
     }
 }
 
 fn change_any(frame: Frame, edit: Edit, chars: &mut [u8], attrs: &[u8]) -> Frame
-    ensures { λ r. ⌜ Changes (edited (seen frame (attrs .entry)) edit) (lent (chars .entry) (attrs .entry)) r (now (chars .exit)) ⌝ }
+    ensures { λ r. ⌜ Changes (edited (seen frame (attrs .entry)) edit) (now (chars .entry)) (now (attrs .entry)) r (now (chars .exit)) ⌝ }
 {
     match edit {
         Edit::Nothing => frame,
@@ -113,20 +143,22 @@ pub(crate) fn apply(
     decision: Decision,
     chars: &mut [u8],
     attrs: &mut [u8],
+    marks: &mut [u8],
     reply: &mut [u8],
     at: usize,
 ) -> Applied
-    requires { ⌜ Sayable (decision .say) (now chars) (now attrs) (now reply) at ⌝ }
+    requires { ⌜ Sayable (decision .say) (lent chars attrs marks) (now reply) at ⌝ }
     ensures { λ r. ⌜ Applies (meant (now (attrs .entry)) decision)
-        (lent (chars .entry) (attrs .entry)) (now (reply .entry)) at
-        r (lent (chars .exit) (attrs .exit)) (now (reply .exit)) ⌝ }
+        (lent (chars .entry) (attrs .entry) (marks .entry)) (now (reply .entry)) at
+        r (lent (chars .exit) (attrs .exit) (marks .exit)) (now (reply .exit)) ⌝ }
 {
     let say = decision.say;
-    let next = say_any(say, chars, attrs, reply, at);
+    let next = say_any(say, chars, attrs, marks, reply, at);
     let edit = decision.edit;
     let frame = change_any(decision.frame, edit, chars, attrs);
     let format = decision.format;
     format_attrs(format, attrs);
+    mark(decision.clear, edit, marks);
     Applied {
         frame: frame,
         written: next,

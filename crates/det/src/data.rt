@@ -3,7 +3,7 @@ ghost use mathlib.Core.Path.{_≡_};
 ghost use mathlib.Core.Bool.{not, _&&_};
 ghost use lib.Dec.{eqb};
 ghost use Rattle.rules.specs.Session.{lineTakesKeys};
-ghost use Rattle.command.specs.Frame.{lent, seen};
+ghost use Rattle.command.specs.Frame.{seen};
 ghost use Rattle.text.specs.Text.{Changes};
 ghost use Rattle.det.specs.inner.Data.{dataEffect, DataDone};
 use command::frame::moved;
@@ -48,7 +48,7 @@ pub(crate) fn obey_data(
     attrs: &[u8],
 ) -> Frame
     ensures { λ r. ⌜ Changes (dataEffect (seen frame (attrs .entry)) lf cr byte)
-        (lent (chars .entry) (attrs .entry)) r (now (chars .exit)) ⌝ }
+        (now (chars .entry)) (now (attrs .entry)) r (now (chars .exit)) ⌝ }
 {
     let passed = is_passed(frame, lf, cr, byte);
     if passed {

@@ -10,6 +10,7 @@ ghost use Rattle.rules.specs.Operation.{outcome, hostBytes, pressTests, keyRefu
 ghost use Rattle.command.specs.Frame.{lent};
 ghost use Rattle.det.specs.inner.Take.{Accepts, inMessage, hostTaken, keyTaken};
 use crate::apply::change_chars;
+use crate::apply::mark;
 use crate::take::take_turn;
 use admit::open::refused;
 use admit::refuse::refuse;
@@ -52,11 +53,12 @@ fn take_all(
     input: &[u8],
     chars: &mut [u8],
     attrs: &mut [u8],
+    marks: &mut [u8],
     reply: &mut [u8],
 ) -> Answer
-    requires { ⌜ Accepts (state session (lent chars attrs)) (now reply) 0 ⌝ }
-    ensures { λ r. ⌜ outcome r (lent (chars .exit) (attrs .exit)) (now (reply .exit))
-        ≡ hostTaken (state session (lent (chars .entry) (attrs .entry))) (now (reply .entry)) (now (input .entry)) ⌝ }
+    requires { ⌜ Accepts (state session (lent chars attrs marks)) (now reply) 0 ⌝ }
+    ensures { λ r. ⌜ outcome r (lent (chars .exit) (attrs .exit) (marks .exit)) (now (reply .exit))
+        ≡ hostTaken (state session (lent (chars .entry) (attrs .entry) (marks .entry))) (now (reply .entry)) (now (input .entry)) ⌝ }
 {
     let room = reply_room(session.frame);
     let mut frame = session.frame;
@@ -89,6 +91,7 @@ fn take_all(
             taken,
             chars,
             attrs,
+            marks,
             reply,
             written,
         );
@@ -119,7 +122,8 @@ fn take_all(
 
 // The refusals of the key itself: 10 where the edit line takes it, else 9, 8, 6 and 7.
 fn refuse_press(session: Session, code: u8, attrs: &[u8]) -> Refusal
-    ensures { λ r. ⌜ ((chars : List ℕ) → r ≡ verdict (pressTests (state session (screen chars (now (attrs .entry)))) code)) ⌝ }
+    ensures { λ r. ⌜ ((chars marks : List ℕ)
+        → r ≡ verdict (pressTests (state session (screen chars (now (attrs .entry)) marks)) code)) ⌝ }
 {
     let takes = takes_key(session.frame, code);
     if takes {
@@ -130,11 +134,18 @@ fn refuse_press(session: Session, code: u8, attrs: &[u8]) -> Refusal
     refuse_pressed(session.frame, attrs, meaning)
 }
 
-// Refusals 1 to 5, then the key's own.
-fn refuse_key(session: Session, code: u8, chars: &[u8], attrs: &[u8], reply: &[u8]) -> Refusal
-    ensures { λ r. ⌜ r ≡ keyRefusal (state session (lent (chars .entry) (attrs .entry))) (now (reply .entry)) code ⌝ }
+// Refusals 1 to 5 and 11, then the key's own.
+fn refuse_key(
+    session: Session,
+    code: u8,
+    chars: &[u8],
+    attrs: &[u8],
+    marks: &[u8],
+    reply: &[u8],
+) -> Refusal
+    ensures { λ r. ⌜ r ≡ keyRefusal (state session (lent (chars .entry) (attrs .entry) (marks .entry))) (now (reply .entry)) code ⌝ }
 {
-    let why = refuse(session, chars, attrs, reply);
+    let why = refuse(session, chars, attrs, marks, reply);
     let Refusal::Taken = why else {
         return why;
     };
@@ -160,19 +171,21 @@ fn take_meaning(
     code: u8,
     chars: &mut [u8],
     attrs: &[u8],
+    marks: &mut [u8],
     reply: &mut [u8],
 ) -> Answer
-    requires { ⌜ keyRefusal (state session (lent chars attrs)) (now reply) code ≡ Refusal.Taken ⌝ }
+    requires { ⌜ keyRefusal (state session (lent chars attrs marks)) (now reply) code ≡ Refusal.Taken ⌝ }
     requires { ⌜ takesKey (session .frame) code ≡ false ⌝ }
-    ensures { λ r. ⌜ outcome r (lent (chars .exit) (attrs .entry)) (now (reply .exit))
-        ≡ keyTaken (state session (lent (chars .entry) (attrs .entry))) (now (reply .entry)) code ⌝ }
+    ensures { λ r. ⌜ outcome r (lent (chars .exit) (attrs .entry) (marks .exit)) (now (reply .exit))
+        ≡ keyTaken (state session (lent (chars .entry) (attrs .entry) (marks .entry))) (now (reply .entry)) code ⌝ }
 {
     let meaning = key_of(code);
     let decision = press(session.frame, attrs, meaning);
     let say = decision.say;
-    let written = write_reply(say, chars, attrs, reply, 0);
+    let written = write_reply(say, chars, attrs, marks, reply, 0);
     let edit = decision.edit;
     let frame = change_chars(decision.frame, edit, chars, attrs);
+    mark(decision.clear, edit, marks);
     Answer {
         session: with_frame(session, frame),
         refusal: Refusal::Taken,
@@ -182,11 +195,18 @@ fn take_meaning(
 }
 
 // A key that is not refused and that the edit line takes.
-fn take_line(session: Session, code: u8, chars: &mut [u8], attrs: &[u8], reply: &mut [u8]) -> Answer
-    requires { ⌜ keyRefusal (state session (lent chars attrs)) (now reply) code ≡ Refusal.Taken ⌝ }
+fn take_line(
+    session: Session,
+    code: u8,
+    chars: &mut [u8],
+    attrs: &[u8],
+    marks: &[u8],
+    reply: &mut [u8],
+) -> Answer
+    requires { ⌜ keyRefusal (state session (lent chars attrs marks)) (now reply) code ≡ Refusal.Taken ⌝ }
     requires { ⌜ takesKey (session .frame) code ≡ true ⌝ }
-    ensures { λ r. ⌜ outcome r (lent (chars .exit) (attrs .entry)) (now (reply .exit))
-        ≡ keyTaken (state session (lent (chars .entry) (attrs .entry))) (now (reply .entry)) code ⌝ }
+    ensures { λ r. ⌜ outcome r (lent (chars .exit) (attrs .entry) (marks .entry)) (now (reply .exit))
+        ≡ keyTaken (state session (lent (chars .entry) (attrs .entry) (marks .entry))) (now (reply .entry)) code ⌝ }
 {
     let pad = session.pad;
     let reader = session.reader;
@@ -205,16 +225,23 @@ fn take_line(session: Session, code: u8, chars: &mut [u8], attrs: &[u8], reply: 
 }
 
 // A key that is not refused.
-fn take_key(session: Session, code: u8, chars: &mut [u8], attrs: &[u8], reply: &mut [u8]) -> Answer
-    requires { ⌜ keyRefusal (state session (lent chars attrs)) (now reply) code ≡ Refusal.Taken ⌝ }
-    ensures { λ r. ⌜ outcome r (lent (chars .exit) (attrs .entry)) (now (reply .exit))
-        ≡ keyTaken (state session (lent (chars .entry) (attrs .entry))) (now (reply .entry)) code ⌝ }
+fn take_key(
+    session: Session,
+    code: u8,
+    chars: &mut [u8],
+    attrs: &[u8],
+    marks: &mut [u8],
+    reply: &mut [u8],
+) -> Answer
+    requires { ⌜ keyRefusal (state session (lent chars attrs marks)) (now reply) code ≡ Refusal.Taken ⌝ }
+    ensures { λ r. ⌜ outcome r (lent (chars .exit) (attrs .entry) (marks .exit)) (now (reply .exit))
+        ≡ keyTaken (state session (lent (chars .entry) (attrs .entry) (marks .entry))) (now (reply .entry)) code ⌝ }
 {
     let takes = takes_key(session.frame, code);
     if takes {
-        return take_line(session, code, chars, attrs, reply);
+        return take_line(session, code, chars, attrs, marks, reply);
     }
-    take_meaning(session, code, chars, attrs, reply)
+    take_meaning(session, code, chars, attrs, marks, reply)
 }
 
 // Bytes from the host. The answer counts those taken from the input's front, and the reply bytes.
@@ -223,26 +250,34 @@ pub fn host_bytes(
     input: &[u8],
     chars: &mut [u8],
     attrs: &mut [u8],
+    marks: &mut [u8],
     reply: &mut [u8],
 ) -> Answer
-    ensures { λ r. ⌜ outcome r (lent (chars .exit) (attrs .exit)) (now (reply .exit))
-        ≡ hostBytes (state session (lent (chars .entry) (attrs .entry))) (now (reply .entry)) (now (input .entry)) ⌝ }
+    ensures { λ r. ⌜ outcome r (lent (chars .exit) (attrs .exit) (marks .exit)) (now (reply .exit))
+        ≡ hostBytes (state session (lent (chars .entry) (attrs .entry) (marks .entry))) (now (reply .entry)) (now (input .entry)) ⌝ }
 {
-    let why = refuse(session, chars, attrs, reply);
+    let why = refuse(session, chars, attrs, marks, reply);
     let Refusal::Taken = why else {
         return refused(session, why);
     };
-    take_all(session, input, chars, attrs, reply)
+    take_all(session, input, chars, attrs, marks, reply)
 }
 
 // One key of the operator.
-pub fn key(session: Session, code: u8, chars: &mut [u8], attrs: &[u8], reply: &mut [u8]) -> Answer
-    ensures { λ r. ⌜ outcome r (lent (chars .exit) (attrs .entry)) (now (reply .exit))
-        ≡ oneKey (state session (lent (chars .entry) (attrs .entry))) (now (reply .entry)) code ⌝ }
+pub fn key(
+    session: Session,
+    code: u8,
+    chars: &mut [u8],
+    attrs: &[u8],
+    marks: &mut [u8],
+    reply: &mut [u8],
+) -> Answer
+    ensures { λ r. ⌜ outcome r (lent (chars .exit) (attrs .entry) (marks .exit)) (now (reply .exit))
+        ≡ oneKey (state session (lent (chars .entry) (attrs .entry) (marks .entry))) (now (reply .entry)) code ⌝ }
 {
-    let why = refuse_key(session, code, chars, attrs, reply);
+    let why = refuse_key(session, code, chars, attrs, marks, reply);
     let Refusal::Taken = why else {
         return refused(session, why);
     };
-    take_key(session, code, chars, attrs, reply)
+    take_key(session, code, chars, attrs, marks, reply)
 }

@@ -1,10 +1,11 @@
 // Host bytes, a turn at a time: a stretch of data or of a subnegotiation's bytes, then a whole subnegotiation or one byte.
 ghost use mathlib.Core.Path.{_≡_};
 ghost use mathlib.Core.Bool.{Bool, false};
-ghost use Prim.Native.Nat.{_<_};
+ghost use mathlib.Core.List.{List};
+ghost use Prim.Native.Nat.{ℕ, _<_};
 ghost use lib.ListN.{length};
 ghost use Rattle.telnet.specs.declared.Phase.the-variants.{Rest, Inside};
-ghost use Rattle.rules.specs.Session.{Screen};
+ghost use Rattle.rules.specs.Session.{Screen, screen};
 ghost use Rattle.command.specs.Frame.{lent, seen};
 ghost use Rattle.det.specs.inner.Data.{detEffect};
 ghost use Rattle.det.specs.inner.Apply.{Answerable, Applies};
@@ -51,13 +52,14 @@ fn happen(
     event: Event,
     chars: &mut [u8],
     attrs: &mut [u8],
+    marks: &mut [u8],
     reply: &mut [u8],
     at: usize,
 ) -> Applied
-    requires { ⌜ Answerable (detEffect (seen frame attrs) lf held cr event) frame (lent chars attrs) (now reply) at ⌝ }
+    requires { ⌜ Answerable (detEffect (seen frame attrs) lf held cr event) frame (lent chars attrs marks) (now reply) at ⌝ }
     ensures { λ r. ⌜ Applies (detEffect (seen frame (attrs .entry)) lf held cr event)
-        (lent (chars .entry) (attrs .entry)) (now (reply .entry)) at
-        r (lent (chars .exit) (attrs .exit)) (now (reply .exit)) ⌝ }
+        (lent (chars .entry) (attrs .entry) (marks .entry)) (now (reply .entry)) at
+        r (lent (chars .exit) (attrs .exit) (marks .exit)) (now (reply .exit)) ⌝ }
 {
     match event {
         Event::Data(byte) => {
@@ -69,11 +71,11 @@ fn happen(
         }
         Event::Negotiation { verb, option } => {
             let decision = negotiate(frame, verb, option);
-            apply(decision, chars, attrs, reply, at)
+            apply(decision, chars, attrs, marks, reply, at)
         }
         Event::End(option) => {
             let decision = decide_end(frame, attrs, held, option);
-            apply(decision, chars, attrs, reply, at)
+            apply(decision, chars, attrs, marks, reply, at)
         }
         _ => Applied {
             frame: frame,
@@ -153,20 +155,32 @@ fn take_told(
     from: usize,
     chars: &mut [u8],
     attrs: &mut [u8],
+    marks: &mut [u8],
     reply: &mut [u8],
     at: usize,
 ) -> Turn
-    requires { ⌜ AcceptsTurn frame reader lf (lent chars attrs) (now reply) at ⌝ }
+    requires { ⌜ AcceptsTurn frame reader lf (lent chars attrs marks) (now reply) at ⌝ }
     requires { ⌜ inMessage (reader .phase) ≡ false ⌝ }
     requires { ⌜ from < length (now input) ⌝ }
     ensures { λ r. ⌜ from < r .end ⌝ }
-    ensures { λ r. ⌜ Turns frame reader lf (lent (chars .entry) (attrs .entry)) (now (input .entry)) from
-        (now (reply .entry)) at r (lent (chars .exit) (attrs .exit)) (now (reply .exit)) ⌝ }
+    ensures { λ r. ⌜ Turns frame reader lf (lent (chars .entry) (attrs .entry) (marks .entry)) (now (input .entry)) from
+        (now (reply .entry)) at r (lent (chars .exit) (attrs .exit) (marks .exit)) (now (reply .exit)) ⌝ }
 {
     let told = told_at(reader, input, from);
     let held = told.held;
     let event = told.event;
-    let done = happen(frame, lf, held, reader.cr, event, chars, attrs, reply, at);
+    let done = happen(
+        frame,
+        lf,
+        held,
+        reader.cr,
+        event,
+        chars,
+        attrs,
+        marks,
+        reply,
+        at,
+    );
     let after = done.frame;
     let next = told.reader;
     Turn {
@@ -191,8 +205,8 @@ fn take_text(
 ) -> Turn
     requires { ⌜ reader .phase ≡ Rest ⌝ }
     requires { ⌜ from < length (now input) ⌝ }
-    ensures { λ r. ⌜ QuietTurns frame reader lf (lent (chars .entry) (attrs .entry)) (now (input .entry)) from at
-        r (lent (chars .exit) (attrs .entry)) ⌝ }
+    ensures { λ r. ⌜ ((marks : List ℕ) → QuietTurns frame reader lf (screen (now (chars .entry)) (now (attrs .entry)) marks)
+        (now (input .entry)) from at r (screen (now (chars .exit)) (now (attrs .entry)) marks)) ⌝ }
 {
     let stretch = data_at(input, from);
     let end = stretch.end;
@@ -258,8 +272,8 @@ fn take_stretch(
 ) -> Turn
     requires { ⌜ inMessage (reader .phase) ≡ false ⌝ }
     requires { ⌜ from < length (now input) ⌝ }
-    ensures { λ r. ⌜ QuietTurns frame reader lf (lent (chars .entry) (attrs .entry)) (now (input .entry)) from at
-        r (lent (chars .exit) (attrs .entry)) ⌝ }
+    ensures { λ r. ⌜ ((marks : List ℕ) → QuietTurns frame reader lf (screen (now (chars .entry)) (now (attrs .entry)) marks)
+        (now (input .entry)) from at r (screen (now (chars .exit)) (now (attrs .entry)) marks)) ⌝ }
 {
     let phase = reader.phase;
     match phase {
@@ -284,15 +298,16 @@ pub(crate) fn take_turn(
     from: usize,
     chars: &mut [u8],
     attrs: &mut [u8],
+    marks: &mut [u8],
     reply: &mut [u8],
     at: usize,
 ) -> Turn
-    requires { ⌜ AcceptsTurn frame reader lf (lent chars attrs) (now reply) at ⌝ }
+    requires { ⌜ AcceptsTurn frame reader lf (lent chars attrs marks) (now reply) at ⌝ }
     requires { ⌜ inMessage (reader .phase) ≡ false ⌝ }
     requires { ⌜ from < length (now input) ⌝ }
     ensures { λ r. ⌜ from < r .end ⌝ }
-    ensures { λ r. ⌜ Turns frame reader lf (lent (chars .entry) (attrs .entry)) (now (input .entry)) from
-        (now (reply .entry)) at r (lent (chars .exit) (attrs .exit)) (now (reply .exit)) ⌝ }
+    ensures { λ r. ⌜ Turns frame reader lf (lent (chars .entry) (attrs .entry) (marks .entry)) (now (input .entry)) from
+        (now (reply .entry)) at r (lent (chars .exit) (attrs .exit) (marks .exit)) (now (reply .exit)) ⌝ }
 {
     let stretch = take_stretch(frame, reader, lf, input, from, chars, attrs, at);
     let next = stretch.end;
@@ -301,5 +316,16 @@ pub(crate) fn take_turn(
     }
     let after = stretch.frame;
     let stands = stretch.reader;
-    take_told(after, stands, lf, input, next, chars, attrs, reply, at)
+    take_told(
+        after,
+        stands,
+        lf,
+        input,
+        next,
+        chars,
+        attrs,
+        marks,
+        reply,
+        at,
+    )
 }

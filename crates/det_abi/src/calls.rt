@@ -58,22 +58,23 @@ fn key_byte(code: u32) -> u8
     if code < 256 { code as u8 } else { 255 }
 }
 
-// Open. The session's place is 206 bytes, whatever stands there.
+// Open. The session's place is of a session's length, whatever stands there.
 #[no_mangle]
 pub extern "C" fn det_open(
     width: usize,
     height: usize,
     chars: &mut [u8],
     attrs: &mut [u8],
+    marks: &mut [u8],
     session: &mut [u8],
 ) -> u8
-    ensures { λ r. ⌜ result r (now (session .exit)) 0 0 (lent (chars .exit) (attrs .exit)) []
-        ≡ openCall width height (now (session .entry)) (lent (chars .entry) (attrs .entry)) ⌝ }
+    ensures { λ r. ⌜ result r (now (session .exit)) 0 0 (lent (chars .exit) (attrs .exit) (marks .exit)) []
+        ≡ openCall width height (now (session .entry)) (lent (chars .entry) (attrs .entry) (marks .entry)) ⌝ }
 {
     if session.len() != SESSION_LENGTH {
         return NO_SESSION;
     }
-    let answer = open(width, height, chars, attrs);
+    let answer = open(width, height, chars, attrs, marks);
     tell(answer, session)
 }
 
@@ -84,19 +85,20 @@ pub extern "C" fn det_host(
     input: &[u8],
     chars: &mut [u8],
     attrs: &mut [u8],
+    marks: &mut [u8],
     reply: &mut [u8],
     taken: &mut usize,
     written: &mut usize,
 ) -> u8
     ensures { λ r. ⌜ result r (now (session .exit)) (now (taken .exit)) (now (written .exit))
-        (lent (chars .exit) (attrs .exit)) (now (reply .exit))
-        ≡ hostCall (now (session .entry)) (now (input .entry)) (lent (chars .entry) (attrs .entry)) (now (reply .entry)) ⌝ }
+        (lent (chars .exit) (attrs .exit) (marks .exit)) (now (reply .exit))
+        ≡ hostCall (now (session .entry)) (now (input .entry)) (lent (chars .entry) (attrs .entry) (marks .entry)) (now (reply .entry)) ⌝ }
 {
     let known = is_session(session);
     if !known {
         return no_session(taken, written);
     }
-    let answer = host_bytes(decode(session), input, chars, attrs, reply);
+    let answer = host_bytes(decode(session), input, chars, attrs, marks, reply);
     give(answer, session, taken, written)
 }
 
@@ -107,18 +109,19 @@ pub extern "C" fn det_key(
     code: u32,
     chars: &mut [u8],
     attrs: &[u8],
+    marks: &mut [u8],
     reply: &mut [u8],
     taken: &mut usize,
     written: &mut usize,
 ) -> u8
     ensures { λ r. ⌜ result r (now (session .exit)) (now (taken .exit)) (now (written .exit))
-        (lent (chars .exit) (attrs .entry)) (now (reply .exit))
-        ≡ keyCall (now (session .entry)) code (lent (chars .entry) (attrs .entry)) (now (reply .entry)) ⌝ }
+        (lent (chars .exit) (attrs .entry) (marks .exit)) (now (reply .exit))
+        ≡ keyCall (now (session .entry)) code (lent (chars .entry) (attrs .entry) (marks .entry)) (now (reply .entry)) ⌝ }
 {
     let known = is_session(session);
     if !known {
         return no_session(taken, written);
     }
-    let answer = key(decode(session), key_byte(code), chars, attrs, reply);
+    let answer = key(decode(session), key_byte(code), chars, attrs, marks, reply);
     give(answer, session, taken, written)
 }

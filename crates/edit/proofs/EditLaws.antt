@@ -4,17 +4,17 @@ use mathlib.Core.Bool.{Bool, true, false, not, _&&_}
 use mathlib.Core.List.{List, _++_}
 use Prim.Native.Nat.{ℕ, _+_, _-_, _≤_, _<_, min}
 use native.Mathlib.Omega.{arith}
-use borrow.Author.Tests.{ltb-true, ltb-false, leb-true, leb-false, lt-ltb, le-ltb, le-leb, lt-leb}
+use borrow.Author.Tests.{ltb-true, ltb-false, leb-true, leb-false, eqb-true, eqb-false, lt-ltb, le-ltb, le-leb, lt-leb}
 use borrow.Rule.Slice.PartMut.{putMid, post-is}
 use lib.Dec.{leb, ltb, eqb}
-use lib.ListN.{length, getD, take, drop, replicate, length-drop, length-replicate, getD-replicate, List·getD-eq-default}
-use lib.Seq.{paste, length-take-le, getD-take, getD-drop}
+use lib.ListN.{length, getD, set, take, drop, replicate, length-set, length-drop, length-replicate, getD-replicate, List·getD-eq-default}
+use lib.Seq.{paste, length-take-le, getD-take, getD-drop, getD-set-same, getD-set-other}
 use Rattle.words.specs.Words.{if_then_else_}
 use Rattle.screen.specs.Words.{inRange}
 use Rattle.screen.specs.Attributes.{protection, protectedAt, guardedAt}
 use Rattle.edit.specs.declared.range.Shift.{Shift}
 use Rattle.edit.specs.declared.range.Shift.the-variants.{Insertion, Deletion}
-use Rattle.edit.specs.Edits.{deleted, deletedCell, inserted, insertedCell, shifted, lies, onPart, erased, erasedCell, formatted, formattedCell, textOf, canCopy, Copied}
+use Rattle.edit.specs.Edits.{deleted, deletedCell, inserted, insertedCell, shifted, lies, onPart, erased, erasedCell, filled, filledCell, textOf, canCopy, Copied}
 use Rattle.words.proofs.Laws.{either, true-or-false, and-left, and-right, and-false, getD-within, tabulate-length, getD-tabulate, tabulated}
 use Rattle.screen.proofs.FieldLaws.{open-within}
 use Rattle.edit.proofs.ListLaws.{in-range, after-range, Replaces, replaced-length, replaced-before, replaced-inside, replaced-after}
@@ -59,24 +59,39 @@ module _ (suppressed : Bool) (chars attrs : List ℕ) (from end : ℕ) where
   unfolding erased
   erased-cell = getD-tabulate (erasedCell suppressed chars attrs from end) (length chars)
 
-module _ (from end attr : ℕ) (attrs : List ℕ) where
-  -- formatting keeps the length of the attribute bytes
-  pub formatted-length : length (formatted from end attr attrs) ≡ length attrs
-  unfolding formatted
-  formatted-length = tabulate-length (formattedCell from end attr attrs) 0 (length attrs)
+module _ (from end byte : ℕ) (bytes : List ℕ) where
+  -- filling keeps the length
+  pub filled-length : length (filled from end byte bytes) ≡ length bytes
+  unfolding filled
+  filled-length = tabulate-length (filledCell from end byte bytes) 0 (length bytes)
 
-  -- an attribute byte after formatting
-  pub formatted-cell : (i d : ℕ) → i < length attrs → getD (formatted from end attr attrs) i d ≡ formattedCell from end attr attrs i
-  unfolding formatted
-  formatted-cell = getD-tabulate (formattedCell from end attr attrs) (length attrs)
+  -- a cell after filling
+  pub filled-cell : (i d : ℕ) → i < length bytes → getD (filled from end byte bytes) i d ≡ filledCell from end byte bytes i
+  unfolding filled
+  filled-cell = getD-tabulate (filledCell from end byte bytes) (length bytes)
+
+-- one cell filled is one byte stored
+pub filled-one : (cell byte : ℕ) (bytes : List ℕ) → set bytes cell byte ≡ filled cell (cell + 1) byte bytes
+unfolding filled
+filled-one cell byte bytes =
+    tabulated (filledCell cell (cell + 1) byte bytes) (set bytes cell byte) (length bytes) 0 (length-set bytes cell byte)
+    (λ k h. true-or-false (eqb k cell)
+    (λ e. let q = eqb-true k cell e in rw (← q, in-range k (k + 1) k (omega arith) (omega arith)) (getD-set-same bytes k byte 0 h))
+    (λ e. getD-set-other bytes cell k byte 0 (eqb-false k cell e) ∙ rw (not-one cell k (eqb-false k cell e))))
+  where
+    not-one : (cell k : ℕ) → (k ≡ cell → ⊥) → inRange cell (cell + 1) k ≡ false
+    not-one cell k n =
+        true-or-false (leb cell k)
+        (λ e. rw (e, le-ltb k (cell + 1) (omega (arith, leb-true cell k e))))
+        (λ e. rw e)
 
 -- with nothing guarded an erasure stores a space in every cell of the range
-pub erased-all : (chars attrs : List ℕ) (from end : ℕ) → formatted from end 32 chars ≡ erased true chars attrs from end
+pub erased-all : (chars attrs : List ℕ) (from end : ℕ) → filled from end 32 chars ≡ erased true chars attrs from end
 unfolding erased
 erased-all chars attrs from end =
-    tabulated (erasedCell true chars attrs from end) (formatted from end 32 chars) (length chars) 0 (formatted-length from end 32 chars)
-    (λ k h. formatted-cell from end 32 chars k 0 h
-    ∙ true-or-false (inRange from end k) (λ e. rw e) (λ e. rw e (getD-within chars k 8 32 h)))
+    tabulated (erasedCell true chars attrs from end) (filled from end 32 chars) (length chars) 0 (filled-length from end 32 chars)
+    (λ k h. filled-cell from end 32 chars k 0 h
+    ∙ true-or-false (inRange from end k) (λ e. rw e) (λ e. rw e (getD-within chars k 0 32 h)))
 
 module _ (attrs : List ℕ) (from end i : ℕ) where
   -- a cell of the range, by the attribute byte that is read
@@ -232,9 +247,9 @@ all-spaces attrs chars =
     sym (tabulated (erasedCell true chars attrs 0 (length chars)) (replicate (length chars) 32) (length chars) 0 (length-replicate _ 32)
     (λ k h. getD-replicate _ k 32 0 h ∙ rw (in-range 0 (length chars) k (omega arith) h)))
 
--- 29: every attribute byte written 0
-pub all-zeros : (attrs : List ℕ) → formatted 0 (length attrs) 0 attrs ≡ replicate (length attrs) 0
-unfolding formatted
-all-zeros attrs =
-    sym (tabulated (formattedCell 0 (length attrs) 0 attrs) (replicate (length attrs) 0) (length attrs) 0 (length-replicate _ 0)
-    (λ k h. getD-replicate _ k 0 0 h ∙ rw (in-range 0 (length attrs) k (omega arith) h)))
+-- 29: every attribute byte written 0; 27, 29 and 35: every mark
+pub all-zeros : (bytes : List ℕ) → filled 0 (length bytes) 0 bytes ≡ replicate (length bytes) 0
+unfolding filled
+all-zeros bytes =
+    sym (tabulated (filledCell 0 (length bytes) 0 bytes) (replicate (length bytes) 0) (length bytes) 0 (length-replicate _ 0)
+    (λ k h. getD-replicate _ k 0 0 h ∙ rw (in-range 0 (length bytes) k (omega arith) h)))

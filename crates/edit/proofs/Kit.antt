@@ -1,6 +1,6 @@
 -- What the proofs of this crate take from the kit, under one name.
 pub use mathlib.Core.Path.{_≡_, refl, sym, _∙_}
-pub use mathlib.Core.Bool.{false, not, _&&_}
+pub use mathlib.Core.Bool.{false, not, _&&_, _||_}
 pub use Prim.Native.Nat.{_+_, _-_, _≤_, _<_}
 pub use native.Mathlib.Numerals.{add-one}
 pub use native.Mathlib.Omega.{arith}

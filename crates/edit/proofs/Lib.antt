@@ -1,3 +1,4 @@
 pub mod Kit
 pub mod ListLaws
 pub mod EditLaws
+pub mod MarkLaws

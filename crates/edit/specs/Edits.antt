@@ -1,17 +1,17 @@
--- Document 01, "Subcommands": what becomes of the characters and attribute bytes of a range of cells, from `from` up to `end`,
--- that one excluded.
+-- Document 01, "Subcommands", and document 02, request (v): what becomes of the characters, attribute bytes and marks of a range of
+-- cells, from `from` up to `end`, that one excluded.
 use mathlib.Core.Path.{_≡_}
 use mathlib.Core.Bool.{Bool, not, _&&_}
 use mathlib.Core.List.{List, _++_}
 use Prim.Native.Nat.{ℕ, _+_, _-_}
-use lib.Dec.{leb, ltb}
+use lib.Dec.{leb, ltb, eqb}
 use lib.ListN.{length, getD, take, drop}
 use lib.Seq.{paste}
 use Rattle.edit.specs.declared.range.Shift.{Shift}
 use Rattle.edit.specs.declared.range.Shift.the-variants.{Insertion, Deletion}
 use Rattle.words.specs.Words.{if_then_else_, tabulate}
-use Rattle.screen.specs.Words.{inRange}
-use Rattle.screen.specs.Attributes.{attributeAt, guardedAt}
+use Rattle.screen.specs.Words.{inRange, firstOf}
+use Rattle.screen.specs.Attributes.{guardedAt}
 
 -- 14 and 16, line and char delete: the part moves `by` cells towards its start, and spaces come in at its end
 abbrev pub deletedCell : ℕ → List ℕ → ℕ → ℕ
@@ -49,12 +49,19 @@ erasedCell suppressed chars attrs from end i =
 unfoldable pub erased : Bool → List ℕ → List ℕ → ℕ → ℕ → List ℕ
 erased suppressed chars attrs from end = tabulate (erasedCell suppressed chars attrs from end) 0 (length chars)
 
--- 36, format data: the cells of the range take the attribute byte
-abbrev pub formattedCell : ℕ → ℕ → ℕ → List ℕ → ℕ → ℕ
-formattedCell from end attr attrs i = if inRange from end i then attr else attributeAt attrs i
+-- 36, format data, and the marks of request (v): the cells of the range take the byte
+abbrev pub filledCell : ℕ → ℕ → ℕ → List ℕ → ℕ → ℕ
+filledCell from end byte bytes i = if inRange from end i then byte else getD bytes i 0
 
-unfoldable pub formatted : ℕ → ℕ → ℕ → List ℕ → List ℕ
-formatted from end attr attrs = tabulate (formattedCell from end attr attrs) 0 (length attrs)
+unfoldable pub filled : ℕ → ℕ → ℕ → List ℕ → List ℕ
+filled from end byte bytes = tabulate (filledCell from end byte bytes) 0 (length bytes)
+
+-- 27: the document's term "marked", a cell whose mark is 1; and a range with such a cell
+abbrev pub markedAt : List ℕ → ℕ → Bool
+markedAt marks i = eqb (getD marks i 0) 1
+
+unfoldable pub someMarked : List ℕ → ℕ → ℕ → Bool
+someMarked marks from end = ltb (firstOf (markedAt marks) end from (end - from)) end
 
 -- 20 to 26: the text of the cells of the range, as it stands in a reply
 abbrev pub textOf : ℕ → ℕ → List ℕ → List ℕ

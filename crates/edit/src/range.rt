@@ -1,11 +1,11 @@
-// What becomes of the characters and attribute bytes of a range of cells, from `from` up to `end`.
+// What becomes of the characters, attribute bytes and marks of a range of cells, from `from` up to `end`.
 ghost use mathlib.Core.Path.{_≡_};
 ghost use mathlib.Core.Bool.{false, _&&_};
 ghost use Prim.Native.Nat.{_+_, _-_, _<_};
 ghost use lib.Dec.{leb};
 ghost use lib.ListN.{length};
 ghost use Rattle.words.specs.Words.{if_then_else_};
-ghost use Rattle.edit.specs.Edits.{deletedCell, insertedCell, deleted, inserted, shifted, onPart, erased, formatted};
+ghost use Rattle.edit.specs.Edits.{deletedCell, insertedCell, deleted, inserted, shifted, onPart, erased, filled};
 use screen::attribute::protection;
 use screen::number::least;
 
@@ -84,14 +84,14 @@ pub fn shift_range(chars: &mut [u8], from: usize, end: usize, shift: Shift, by: 
     }
 }
 
-// The attribute byte in every cell of the range.
-pub fn format(attrs: &mut [u8], from: usize, end: usize, attr: u8)
-    ensures { λ _. ⌜ now (attrs .exit) ≡ formatted from end attr (now (attrs .entry)) ⌝ }
+// The byte in every cell of the range: an attribute byte, a mark, a space.
+pub fn fill(bytes: &mut [u8], from: usize, end: usize, byte: u8)
+    ensures { λ _. ⌜ now (bytes .exit) ≡ filled from end byte (now (bytes .entry)) ⌝ }
 {
-    let stop = least(end, attrs.len());
+    let stop = least(end, bytes.len());
     let mut i = from;
     while i < stop {
-        attrs[i] = attr;
+        bytes[i] = byte;
         i += 1;
     }
 }
@@ -120,7 +120,7 @@ pub fn erase(suppressed: bool, chars: &mut [u8], attrs: &[u8], from: usize, end:
     ensures { λ _. ⌜ now (chars .exit) ≡ erased suppressed (now (chars .entry)) (now (attrs .entry)) from end ⌝ }
 {
     if suppressed {
-        format(chars, from, end, 32);
+        fill(chars, from, end, 32);
     } else {
         erase_unprotected(chars, attrs, from, end);
     }

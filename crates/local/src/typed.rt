@@ -4,7 +4,7 @@ ghost use Rattle.words.specs.Stored.{Emitted};
 ghost use Rattle.rules.specs.Refusal.{verdict};
 ghost use Rattle.rules.specs.Telnet.{hostText};
 ghost use Rattle.rules.specs.Pad.{takesKey, lineTests, padTyped, sentAt, echoedAt};
-ghost use Rattle.command.specs.Frame.{lent, seen};
+ghost use Rattle.command.specs.Frame.{seen};
 ghost use Rattle.text.specs.Text.{Changes};
 ghost use Rattle.pad.specs.Line.{textOf};
 ghost use Rattle.typing.specs.Echo.{bytesOf};
@@ -52,7 +52,7 @@ pub fn refuse_line(pad: Pad, code: u8) -> Refusal
 // An echo, written as host text: the frame after it.
 fn write_echo(frame: Frame, echo: Echo, line: EditLine, chars: &mut [u8], attrs: &[u8]) -> Frame
     ensures { λ r. ⌜ Changes (hostText (seen frame (attrs .entry)) (bytesOf echo (textOf line)))
-        (lent (chars .entry) (attrs .entry)) r (now (chars .exit)) ⌝ }
+        (now (chars .entry)) (now (attrs .entry)) r (now (chars .exit)) ⌝ }
 {
     let count = echo_length(echo, line);
     let mut cursor = frame.cursor;
@@ -69,7 +69,7 @@ fn write_echo(frame: Frame, echo: Echo, line: EditLine, chars: &mut [u8], attrs:
 // What is echoed at a key, written as host text: the frame after it.
 pub fn echo_key(frame: Frame, pad: Pad, code: u8, chars: &mut [u8], attrs: &[u8]) -> Frame
     ensures { λ r. ⌜ Changes (hostText (seen frame (attrs .entry)) (echoedAt pad code))
-        (lent (chars .entry) (attrs .entry)) r (now (chars .exit)) ⌝ }
+        (now (chars .entry)) (now (attrs .entry)) r (now (chars .exit)) ⌝ }
 {
     let values = pad.values;
     let line = pad.line;

@@ -17,6 +17,8 @@ const CHAR: u8 = 0x2a;
 
 const ATTR: u8 = 0x11;
 
+const MARK: u8 = 1;
+
 const REPLY: u8 = 0xa5;
 
 // The last call's answer, whose session is the one in use, and the lengths of the buffers: no reply buffer for `open`.
@@ -24,6 +26,7 @@ pub struct Desk {
     pub answer: Answer,
     pub chars: usize,
     pub attrs: usize,
+    pub marks: usize,
     pub room: usize,
 }
 
@@ -46,30 +49,16 @@ fn copy(from: &[u8], to: &mut [u8], length: usize) {
     }
 }
 
-fn open(
-    width: usize,
-    height: usize,
-    chars: &mut [u8],
-    c: usize,
-    attrs: &mut [u8],
-    a: usize,
-) -> Desk {
-    fill(chars, c, CHAR);
-    fill(attrs, a, ATTR);
-    let n = least(c, chars.len());
-    let k = least(a, attrs.len());
-    let answer = admit::open::open(width, height, &mut chars[0..n], &mut attrs[0..k]);
+// Before the first order: as after an `open` that is refused, with empty buffers.
+pub(crate) fn fresh(chars: &mut [u8], attrs: &mut [u8], marks: &mut [u8]) -> Desk {
+    let answer = admit::open::open(0, 0, chars, attrs, marks);
     Desk {
         answer: answer,
-        chars: c,
-        attrs: a,
+        chars: 0,
+        attrs: 0,
+        marks: 0,
         room: 0,
     }
-}
-
-// Before the first order: as after an `open` that is refused, with empty buffers.
-pub(crate) fn fresh(chars: &mut [u8], attrs: &mut [u8]) -> Desk {
-    open(0, 0, chars, 0, attrs, 0)
 }
 
 fn made(
@@ -78,26 +67,52 @@ fn made(
     input: &[u8],
     chars: &mut [u8],
     attrs: &mut [u8],
+    marks: &mut [u8],
     reply: &mut [u8],
 ) -> Answer {
     match call {
-        Call::Host => host_bytes(session, input, chars, attrs, reply),
-        Call::Key(code) => key(session, code, chars, attrs, reply),
+        Call::Open { width, height } => admit::open::open(width, height, chars, attrs, marks),
+        Call::Host => host_bytes(session, input, chars, attrs, marks, reply),
+        Call::Key(code) => key(session, code, chars, attrs, marks, reply),
     }
 }
 
-// Each of the next cuts one lent buffer to its length, and hands on: a function that cuts four at once takes ten times as long to prove.
+// Each of the next cuts one lent buffer to its length, and hands on: a function that cuts several takes far longer to prove.
 fn with_reply(
     session: Session,
     call: Call,
     input: &[u8],
     chars: &mut [u8],
     attrs: &mut [u8],
+    marks: &mut [u8],
     reply: &mut [u8],
     room: usize,
 ) -> Answer {
     let n = least(room, reply.len());
-    made(session, call, input, chars, attrs, &mut reply[0..n])
+    made(session, call, input, chars, attrs, marks, &mut reply[0..n])
+}
+
+fn with_marks(
+    desk: Desk,
+    call: Call,
+    input: &[u8],
+    chars: &mut [u8],
+    attrs: &mut [u8],
+    marks: &mut [u8],
+    reply: &mut [u8],
+    room: usize,
+) -> Answer {
+    let n = least(desk.marks, marks.len());
+    with_reply(
+        session_of(desk),
+        call,
+        input,
+        chars,
+        attrs,
+        &mut marks[0..n],
+        reply,
+        room,
+    )
 }
 
 fn with_attrs(
@@ -106,16 +121,18 @@ fn with_attrs(
     input: &[u8],
     chars: &mut [u8],
     attrs: &mut [u8],
+    marks: &mut [u8],
     reply: &mut [u8],
     room: usize,
 ) -> Answer {
     let n = least(desk.attrs, attrs.len());
-    with_reply(
-        session_of(desk),
+    with_marks(
+        desk,
         call,
         input,
         chars,
         &mut attrs[0..n],
+        marks,
         reply,
         room,
     )
@@ -127,11 +144,21 @@ fn with_chars(
     input: &[u8],
     chars: &mut [u8],
     attrs: &mut [u8],
+    marks: &mut [u8],
     reply: &mut [u8],
     room: usize,
 ) -> Answer {
     let n = least(desk.chars, chars.len());
-    with_attrs(desk, call, input, &mut chars[0..n], attrs, reply, room)
+    with_attrs(
+        desk,
+        call,
+        input,
+        &mut chars[0..n],
+        attrs,
+        marks,
+        reply,
+        room,
+    )
 }
 
 // The call with a reply buffer of so many bytes, and `count` bytes of input.
@@ -142,18 +169,40 @@ fn called(
     count: usize,
     chars: &mut [u8],
     attrs: &mut [u8],
+    marks: &mut [u8],
     reply: &mut [u8],
     room: usize,
 ) -> Desk {
     fill(reply, room, REPLY);
     let n = least(count, input.len());
-    let answer = with_chars(desk, call, &input[0..n], chars, attrs, reply, room);
+    let answer = with_chars(desk, call, &input[0..n], chars, attrs, marks, reply, room);
     Desk {
         answer: answer,
         chars: desk.chars,
         attrs: desk.attrs,
+        marks: desk.marks,
         room: room,
     }
+}
+
+// The screen's buffers anew, of these lengths.
+fn lend(
+    desk: Desk,
+    chars: &mut [u8],
+    c: usize,
+    attrs: &mut [u8],
+    a: usize,
+    marks: &mut [u8],
+    m: usize,
+) -> Desk {
+    fill(chars, c, CHAR);
+    fill(attrs, a, ATTR);
+    fill(marks, m, MARK);
+    let mut desk = desk;
+    desk.chars = c;
+    desk.attrs = a;
+    desk.marks = m;
+    desk
 }
 
 fn session_of(desk: Desk) -> Session {
@@ -187,6 +236,13 @@ fn set_attrs(desk: Desk, from: &[u8], attrs: &mut [u8], length: usize) -> Desk {
     copy(from, attrs, length);
     let mut desk = desk;
     desk.attrs = length;
+    desk
+}
+
+fn set_marks(desk: Desk, from: &[u8], marks: &mut [u8], length: usize) -> Desk {
+    copy(from, marks, length);
+    let mut desk = desk;
+    desk.marks = length;
     desk
 }
 
@@ -228,6 +284,7 @@ pub(crate) fn obey(
     bytes: &[u8],
     chars: &mut [u8],
     attrs: &mut [u8],
+    marks: &mut [u8],
     reply: &mut [u8],
 ) -> Desk {
     match order {
@@ -236,12 +293,21 @@ pub(crate) fn obey(
             height,
             chars: c,
             attrs: a,
-        } => open(width, height, chars, c, attrs, a),
+            marks: m,
+        } => {
+            let lent = lend(desk, chars, c, attrs, a, marks, m);
+            let opening = Call::Open {
+                width: width,
+                height: height,
+            };
+            called(lent, opening, bytes, 0, chars, attrs, marks, reply, 0)
+        }
         Order::Chars(length) => set_chars(desk, bytes, chars, length),
         Order::Attrs(length) => set_attrs(desk, bytes, attrs, length),
+        Order::Marks(length) => set_marks(desk, bytes, marks, length),
         Order::Set(setting) => set(desk, setting),
         Order::Call { call, count, room } => {
-            called(desk, call, bytes, count, chars, attrs, reply, room)
+            called(desk, call, bytes, count, chars, attrs, marks, reply, room)
         }
         _ => desk,
     }

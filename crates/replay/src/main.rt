@@ -46,13 +46,24 @@ fn turn(
     bytes: &mut Block,
     chars: &mut Screen,
     attrs: &mut Screen,
+    marks: &mut Screen,
     reply: &mut Reply,
     out: &mut Block,
 ) -> State {
     let read = order::read(block, state.source, bytes);
     let order = read.order;
-    let desk = desk::obey(state.desk, order, bytes, chars, attrs, reply);
-    let sink = print::line(out, state.sink, order, line, desk, chars, attrs, reply);
+    let desk = desk::obey(state.desk, order, bytes, chars, attrs, marks, reply);
+    let sink = print::line(
+        out,
+        state.sink,
+        order,
+        line,
+        desk,
+        chars,
+        attrs,
+        marks,
+        reply,
+    );
     let source = read.source;
     State {
         desk: desk,
@@ -68,11 +79,12 @@ fn play(
     bytes: &mut Block,
     chars: &mut Screen,
     attrs: &mut Screen,
+    marks: &mut Screen,
     reply: &mut Reply,
     out: &mut Block,
 ) -> State {
     let mut state = State {
-        desk: desk::fresh(chars, attrs),
+        desk: desk::fresh(chars, attrs, marks),
         source: source::start(),
         sink: sink::empty(),
         more: true,
@@ -80,7 +92,7 @@ fn play(
     let mut line: u64 = 0;
     while line < u64::MAX {
         line += 1;
-        let next = turn(state, line, block, bytes, chars, attrs, reply, out);
+        let next = turn(state, line, block, bytes, chars, attrs, marks, reply, out);
         state = next;
         if !state.more {
             break;
@@ -110,6 +122,7 @@ fn main() {
     let mut bytes = [0u8; 65536];
     let mut chars = [0u8; 8448];
     let mut attrs = [0u8; 8448];
+    let mut marks = [0u8; 8448];
     let mut reply = [0u8; 80000];
     let mut out = [0u8; 65536];
     let state = play(
@@ -117,6 +130,7 @@ fn main() {
         &mut bytes,
         &mut chars,
         &mut attrs,
+        &mut marks,
         &mut reply,
         &mut out,
     );

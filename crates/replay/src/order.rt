@@ -30,6 +30,7 @@ pub enum Setting {
 
 // A call with lent buffers.
 pub enum Call {
+    Open { width: usize, height: usize },
     Host,
     Key(u8),
 }
@@ -40,10 +41,12 @@ pub enum Order {
         height: usize,
         chars: usize,
         attrs: usize,
+        marks: usize,
     },
-    // so many bytes replace the characters, or the attributes
+    // so many bytes replace the characters, the attributes or the marks
     Chars(usize),
     Attrs(usize),
+    Marks(usize),
     Set(Setting),
     // with so many bytes of input, and a reply buffer of so many
     Call {
@@ -64,10 +67,19 @@ pub struct Parsed {
     pub order: Order,
 }
 
+// The lengths of the screen's buffers, and what follows them in the line.
+struct Lengths {
+    source: Source,
+    chars: usize,
+    attrs: usize,
+    marks: usize,
+}
+
 enum Word {
     Open,
     Chars,
     Attrs,
+    Marks,
     Cursor,
     Held,
     Switch(Switch),
@@ -133,6 +145,9 @@ fn word_of(letters: &[u8], length: usize) -> Word {
     if same(word, b"attrs") {
         return Word::Attrs;
     }
+    if same(word, b"marks") {
+        return Word::Marks;
+    }
     if same(word, b"cursor") {
         return Word::Cursor;
     }
@@ -165,18 +180,31 @@ fn closed(source: Source, order: Order) -> Parsed {
     }
 }
 
+fn buffers(block: &mut [u8], source: Source) -> Lengths {
+    let chars = field::number(block, source, BUFFER);
+    let attrs = field::number(block, chars.source, BUFFER);
+    let marks = field::number(block, attrs.source, BUFFER);
+    let after = marks.source;
+    Lengths {
+        source: after,
+        chars: chars.value,
+        attrs: attrs.value,
+        marks: marks.value,
+    }
+}
+
 fn open(block: &mut [u8], source: Source) -> Parsed {
     let width = field::number(block, source, SIZE);
     let height = field::number(block, width.source, SIZE);
-    let chars = field::number(block, height.source, BUFFER);
-    let attrs = field::number(block, chars.source, BUFFER);
+    let lengths = buffers(block, height.source);
     let order = Order::Open {
         width: width.value,
         height: height.value,
-        chars: chars.value,
-        attrs: attrs.value,
+        chars: lengths.chars,
+        attrs: lengths.attrs,
+        marks: lengths.marks,
     };
-    closed(attrs.source, order)
+    closed(lengths.source, order)
 }
 
 fn chars(block: &mut [u8], source: Source, bytes: &mut [u8]) -> Parsed {
@@ -187,6 +215,11 @@ fn chars(block: &mut [u8], source: Source, bytes: &mut [u8]) -> Parsed {
 fn attrs(block: &mut [u8], source: Source, bytes: &mut [u8]) -> Parsed {
     let count = field::bytes(block, source, bytes, BUFFER);
     closed(count.source, Order::Attrs(count.value))
+}
+
+fn marks(block: &mut [u8], source: Source, bytes: &mut [u8]) -> Parsed {
+    let count = field::bytes(block, source, bytes, BUFFER);
+    closed(count.source, Order::Marks(count.value))
 }
 
 fn cursor(block: &mut [u8], source: Source) -> Parsed {
@@ -251,6 +284,7 @@ fn rest(block: &mut [u8], source: Source, word: Word, bytes: &mut [u8]) -> Parse
         Word::Open => open(block, source),
         Word::Chars => chars(block, source, bytes),
         Word::Attrs => attrs(block, source, bytes),
+        Word::Marks => marks(block, source, bytes),
         Word::Cursor => cursor(block, source),
         Word::Held => held(block, source),
         Word::Switch(named) => switching(block, source, named),

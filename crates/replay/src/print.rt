@@ -94,11 +94,12 @@ fn agreed(out: &mut [u8], sink: Sink, received: Maps) -> Sink {
     bytes(out, sink, &maps, 5)
 }
 
-// The line's end: the PAD, and what is agreed.
-fn ending(out: &mut [u8], sink: Sink, desk: Desk) -> Sink {
+// The line's end: the PAD, what is agreed, and the marks.
+fn ending(out: &mut [u8], sink: Sink, desk: Desk, marks: &[u8]) -> Sink {
     let typed = local(out, sink, desk);
     let frame = frame_of(desk);
-    let whole = agreed(out, typed, frame.received);
+    let mapped = agreed(out, typed, frame.received);
+    let whole = bytes(out, mapped, marks, desk.marks);
     sink::put(out, whole, b'\n')
 }
 
@@ -108,13 +109,14 @@ fn answer(
     desk: Desk,
     chars: &[u8],
     attrs: &[u8],
+    marks: &[u8],
     reply: &[u8],
 ) -> Sink {
     let counted = replied(out, sink, desk.answer, reply, desk.room);
     let told = session(out, counted, frame_of(desk));
     let lettered = bytes(out, told, chars, desk.chars);
     let formatted = bytes(out, lettered, attrs, desk.attrs);
-    ending(out, formatted, desk)
+    ending(out, formatted, desk, marks)
 }
 
 // By place where the reader may stand: its name, in eight letters with the spaces after it.
@@ -196,6 +198,7 @@ pub(crate) fn line(
     desk: Desk,
     chars: &[u8],
     attrs: &[u8],
+    marks: &[u8],
     reply: &[u8],
 ) -> Sink {
     match order {
@@ -204,12 +207,13 @@ pub(crate) fn line(
             height: _,
             chars: _,
             attrs: _,
-        } => answer(out, sink, desk, chars, attrs, reply),
+            marks: _,
+        } => answer(out, sink, desk, chars, attrs, marks, reply),
         Order::Call {
             call: _,
             count: _,
             room: _,
-        } => answer(out, sink, desk, chars, attrs, reply),
+        } => answer(out, sink, desk, chars, attrs, marks, reply),
         Order::State => state(out, sink, reader_of(desk)),
         Order::End => sink,
         Order::Bad => bad_line(out, sink, number),

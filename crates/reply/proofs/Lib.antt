@@ -1,3 +1,4 @@
 pub mod WriteLaws
 pub mod ReplyLaws
 pub mod SingleLaws
+pub mod ModifiedLaws

@@ -2,7 +2,7 @@
 use mathlib.Core.Path.{_≡_, refl, sym, ap, subst, _∙_}
 use mathlib.Core.Bool.{Bool, true, false}
 use mathlib.Core.List.{List, [], _∷_, _++_, append-assoc, append-nil}
-use Prim.Native.Nat.{ℕ, zero, suc, _+_, _≤_}
+use Prim.Native.Nat.{ℕ, zero, suc, _+_, _*_, _≤_, _<_}
 use native.Mathlib.Nat.{add-zero, add-suc, suc-add}
 use native.Mathlib.Omega.{arith}
 use borrow.Author.Tests.{le-leb}
@@ -13,19 +13,23 @@ use Rattle.telnet.specs.Reader.{iac, se}
 use Rattle.telnet.specs.Writer.{doubled, subnegotiation, negotiation}
 use Rattle.words.specs.Words.{if_then_else_}
 use Rattle.words.specs.Stored.{Room, Emitted}
+use Rattle.screen.specs.declared.cell.Place.{Place}
+use Rattle.screen.specs.Cells.{placeOf}
 use Rattle.screen.specs.Fields.{opensAt, fieldEnd}
-use Rattle.edit.specs.Edits.{lies}
+use Rattle.edit.specs.Edits.{lies, someMarked, textOf}
 use Rattle.words.proofs.Laws.{true-or-false}
 use Rattle.words.proofs.StoredLaws.{sets-append}
+use Rattle.screen.proofs.CellLaws.{place-whole}
 use Rattle.screen.proofs.FieldLaws.{end-gt, end-le}
-use Rattle.rules.specs.Effect.{Part, spelled, spelledAll}
-use Rattle.rules.specs.Subcommand.{fieldTexts, withoutFirst}
+use Rattle.rules.specs.Session.{Screen}
+use Rattle.rules.specs.Effect.{spelled, spelledAll}
+use Rattle.rules.specs.Subcommand.{prefaceBytes, fieldTexts, withoutFirst, modifiedTexts}
 use Rattle.decide.specs.declared.decision.Say.{Say}
-use Rattle.decide.specs.declared.decision.Say.the-variants.{Silent, Negotiation, Two, Three, Preface, Text, Fields}
+use Rattle.decide.specs.declared.decision.Say.the-variants.{Silent, Negotiation, Two, Three, Preface, Text, Fields, Modified}
 use Rattle.decide.specs.Decision.{partsOf, Sendable}
 use Rattle.reply.specs.Written.{Buffer, buffer, wroteAll, Wrote}
 use Rattle.rules.specs.Number.{detOption, x3Option, dataTransmit, fieldSeparator}
-use Rattle.reply.specs.Pieces.{doubledPieces, messagePieces, textPiece, fieldPieces, sayPieces}
+use Rattle.reply.specs.Pieces.{doubledPieces, messagePieces, prefacePieces, textPiece, fieldPieces, modifiedPieces, sayPieces}
 use Rattle.reply.specs.inner.Reply.{Sayable}
 use Rattle.reply.proofs.WriteLaws.{whole, wrote-by}
 
@@ -76,40 +80,75 @@ det-message = joined-message detOption refl
 message-alone : (payload : List ℕ) → joined (messagePieces detOption payload) ≡ subnegotiation detOption payload ++ []
 message-alone payload = ap joined (sym (append-nil (messagePieces detOption payload))) ∙ det-message payload []
 
+-- a text behind a preface
+joined-prefaced : (p : Place) (t : List ℕ) (ps : List (List ℕ)) → joined ((prefacePieces p ++ (t ∷ [])) ++ ps) ≡ (prefaceBytes p ++ t) ++ joined ps
+joined-prefaced p t ps =
+    ap joined (append-assoc (prefacePieces p) (t ∷ []) ps)
+    ∙ det-message (dataTransmit ∷ p .x .0 ∷ p .y .0 ∷ []) (t ∷ ps)
+    ∙ sym (append-assoc (prefaceBytes p) t (joined ps))
+
 lies-true : {from end : ℕ} (chars : List ℕ) → from ≤ end → end ≤ length chars → lies from end chars ≡ true
 lies-true {from} {end} chars a b = rw (le-leb from end a, le-leb end (length chars) b)
 
-joined-fields : (chars attrs : List ℕ) (first : Bool) (i n : ℕ) → i + n ≡ length attrs → length chars ≡ length attrs
-    → joined (fieldPieces chars attrs first i n) ≡ spelledAll chars (if first then withoutFirst (fieldTexts attrs i n) else fieldTexts attrs i n)
-unfolding fieldPieces fieldTexts spelledAll spelled
-joined-fields chars attrs first i zero h long = true-or-false first (λ t. rw t) (λ t. rw t)
-joined-fields chars attrs first i (suc n) h long =
-    let within : suc i + n ≡ length attrs = omega arith in
-    true-or-false (opensAt attrs i)
-    (λ o.
-    let inside = lies-true {from = i} {end = fieldEnd attrs i} chars (omega (arith, end-gt attrs i (omega arith))) (omega (arith, end-le attrs i)) in
-    rw (o, inside) (true-or-false first (λ t. rw (t, joined-fields chars attrs false (suc i) n within long)) (λ t. rw (t, det-message (fieldSeparator ∷ []) _, joined-fields chars attrs false (suc i) n within long))))
-    (λ o. rw o (joined-fields chars attrs first (suc i) n within long))
+module _ (b : Screen) (long : length (b .chars) ≡ length (b .attrs)) where
+  -- the text of a field
+  field-lies : (i : ℕ) → i < length (b .attrs) → lies i (fieldEnd (b .attrs) i) (b .chars) ≡ true
+  field-lies i h = lies-true {from = i} (b .chars) (omega (arith, end-gt (b .attrs) i h)) (omega (arith, end-le (b .attrs) i))
+
+  joined-fields : (first : Bool) (i n : ℕ) → i + n ≡ length (b .attrs)
+      → joined (fieldPieces (b .chars) (b .attrs) first i n)
+      ≡ spelledAll b (if first then withoutFirst (fieldTexts (b .attrs) i n) else fieldTexts (b .attrs) i n)
+  unfolding fieldPieces fieldTexts spelledAll spelled
+  joined-fields first i zero h = true-or-false first (λ t. rw t) (λ t. rw t)
+  joined-fields first i (suc n) h =
+      let within : suc i + n ≡ length (b .attrs) = omega arith in
+      true-or-false (opensAt (b .attrs) i)
+      (λ o.
+      rw (o, field-lies i (omega arith))
+      (true-or-false first (λ t. rw (t, joined-fields false (suc i) n within))
+      (λ t. rw (t, det-message (fieldSeparator ∷ []) _, joined-fields false (suc i) n within))))
+      (λ o. rw o (joined-fields first (suc i) n within))
+
+  -- 27: the place of every cell has a line that a byte can number
+  joined-modified : (width : ℕ) → length (b .attrs) ≤ 256 * width → (i n : ℕ) → i + n ≡ length (b .attrs)
+      → joined (modifiedPieces width (b .chars) (b .attrs) (b .marks) i n) ≡ spelledAll b (modifiedTexts width (b .attrs) i n)
+  unfolding modifiedPieces modifiedTexts spelledAll spelled
+  joined-modified width numbered i zero h = refl
+  joined-modified width numbered i (suc n) h =
+      let rest = joined-modified width numbered (suc i) n (omega arith) in
+      true-or-false (opensAt (b .attrs) i)
+      (λ o.
+      rw o
+      (true-or-false (someMarked (b .marks) i (fieldEnd (b .attrs) i))
+      (λ m.
+      rw (m, place-whole width 256 i (omega arith) (omega arith), field-lies i (omega arith))
+      (joined-prefaced (placeOf width i) (textOf i (fieldEnd (b .attrs) i) (b .chars)) _ ∙ rw rest))
+      (λ m. rw (m, rest))))
+      (λ o. rw (o, rest))
 
 -- what is said, where it can be said
-joined-say : (chars attrs : List ℕ) (say : Say) → Sendable attrs say → length chars ≡ length attrs
-    → joined (sayPieces chars attrs say) ≡ spelledAll chars (partsOf attrs say)
+joined-say : (b : Screen) (say : Say) → Sendable (b .attrs) say → length (b .chars) ≡ length (b .attrs)
+    → joined (sayPieces (b .chars) (b .attrs) (b .marks) say) ≡ spelledAll b (partsOf (b .attrs) say)
 unfolding spelledAll spelled
-joined-say chars attrs Silent s long = refl
-joined-say chars attrs (Negotiation verb option) s long = refl
-joined-say chars attrs (Two code a) s long = message-alone (code ∷ a ∷ [])
-joined-say chars attrs (Three code a b) s long = message-alone (code ∷ a ∷ b ∷ [])
-joined-say chars attrs (Preface p) s long = message-alone (dataTransmit ∷ p .x .0 ∷ p .y .0 ∷ [])
-joined-say chars attrs (Text p from end) s long =
-    det-message (dataTransmit ∷ p .x .0 ∷ p .y .0 ∷ []) (textPiece from end chars ∷ []) ∙ rw (lies-true {from = from} {end = end} chars (s .0) (omega (arith, s .1, long)))
-joined-say chars attrs (Fields p) s long =
-    det-message (dataTransmit ∷ p .x .0 ∷ p .y .0 ∷ []) (fieldPieces chars attrs true 0 (length attrs))
-    ∙ rw (joined-fields chars attrs true 0 (length attrs) (omega arith) long)
+joined-say b Silent s long = refl
+joined-say b (Negotiation verb option) s long = refl
+joined-say b (Two code x) s long = message-alone (code ∷ x ∷ [])
+joined-say b (Three code x y) s long = message-alone (code ∷ x ∷ y ∷ [])
+joined-say b (Preface p) s long = message-alone (dataTransmit ∷ p .x .0 ∷ p .y .0 ∷ [])
+joined-say b (Text p from end) s long =
+    det-message (dataTransmit ∷ p .x .0 ∷ p .y .0 ∷ []) (textPiece from end (b .chars) ∷ [])
+    ∙ rw (lies-true {from = from} {end = end} (b .chars) (s .0) (omega (arith, s .1, long)))
+joined-say b (Fields p) s long =
+    det-message (dataTransmit ∷ p .x .0 ∷ p .y .0 ∷ []) (fieldPieces (b .chars) (b .attrs) true 0 (length (b .attrs)))
+    ∙ rw (joined-fields b long true 0 (length (b .attrs)) (omega arith))
+joined-say b (Modified width) s long = joined-modified b long width s 0 (length (b .attrs)) (omega arith)
 
-pub said : {say : Say} {chars attrs reply : List ℕ} {at : ℕ} {reply′ : List ℕ} {at′ : ℕ} → Sayable say chars attrs reply at
-    → Wrote reply at (sayPieces chars attrs say) reply′ at′ → Emitted reply at (spelledAll chars (partsOf attrs say)) reply′ at′
-said {say} {chars} {attrs} s w =
-    let e = joined-say chars attrs say (s .sendable) (s .long) in rw e at (wrote-emitted (sayPieces chars attrs say) (rw e (s .room)) w)
+pub said : {say : Say} {b : Screen} {reply : List ℕ} {at : ℕ} {reply′ : List ℕ} {at′ : ℕ} → Sayable say b reply at
+    → Wrote reply at (sayPieces (b .chars) (b .attrs) (b .marks) say) reply′ at′
+    → Emitted reply at (spelledAll b (partsOf (b .attrs) say)) reply′ at′
+said {say} {b} s w =
+    let e = joined-say b say (s .sendable) (s .long) in
+    rw e at (wrote-emitted (sayPieces (b .chars) (b .attrs) (b .marks) say) (rw e (s .room)) w)
 
 -- RESPONSE-IS, where there is room for it
 pub responded : (payload : List ℕ) {reply : List ℕ} {at : ℕ} {reply′ : List ℕ} {at′ : ℕ} → Room reply at (subnegotiation x3Option payload)

@@ -8,11 +8,12 @@ use Rattle.telnet.specs.Reader.{iac, sb, se}
 use Rattle.telnet.specs.Writer.{negotiation}
 use Rattle.words.specs.Words.{if_then_else_}
 use Rattle.screen.specs.declared.cell.Place.{Place}
+use Rattle.screen.specs.Cells.{placeOrOrigin}
 use Rattle.screen.specs.Fields.{opensAt, fieldEnd}
-use Rattle.edit.specs.Edits.{lies, textOf}
+use Rattle.edit.specs.Edits.{lies, someMarked, textOf}
 use Rattle.rules.specs.Number.{detOption, dataTransmit, fieldSeparator}
 use Rattle.decide.specs.declared.decision.Say.{Say}
-use Rattle.decide.specs.declared.decision.Say.the-variants.{Silent, Negotiation, Two, Three, Preface, Text, Fields}
+use Rattle.decide.specs.declared.decision.Say.the-variants.{Silent, Negotiation, Two, Three, Preface, Text, Fields, Modified}
 
 -- of a payload: IAC is written twice
 unfoldable pub doubledPieces : List ℕ → List (List ℕ)
@@ -43,12 +44,25 @@ fieldPieces chars attrs first i (suc n) =
     then separatorPieces first ++ (textPiece i (fieldEnd attrs i) chars ∷ fieldPieces chars attrs false (suc i) n)
     else fieldPieces chars attrs first (suc i) n
 
+-- request (v), 27: a field with a marked cell, behind a preface of its own
+abbrev pub markedPieces : ℕ → List ℕ → List ℕ → ℕ → ℕ → List (List ℕ)
+markedPieces width chars marks from end =
+    if someMarked marks from end then prefacePieces (placeOrOrigin width from) ++ (textPiece from end chars ∷ []) else []
+
+-- of the n cells from i on
+unfoldable pub modifiedPieces : ℕ → List ℕ → List ℕ → List ℕ → ℕ → ℕ → List (List ℕ)
+modifiedPieces width chars attrs marks i zero = []
+modifiedPieces width chars attrs marks i (suc n) =
+    let rest = modifiedPieces width chars attrs marks (suc i) n in
+    if opensAt attrs i then markedPieces width chars marks i (fieldEnd attrs i) ++ rest else rest
+
 -- of what is said
-abbrev pub sayPieces : List ℕ → List ℕ → Say → List (List ℕ)
-sayPieces chars attrs Silent = []
-sayPieces chars attrs (Negotiation verb option) = negotiation verb option ∷ []
-sayPieces chars attrs (Two code a) = messagePieces detOption (code ∷ a ∷ [])
-sayPieces chars attrs (Three code a b) = messagePieces detOption (code ∷ a ∷ b ∷ [])
-sayPieces chars attrs (Preface p) = prefacePieces p
-sayPieces chars attrs (Text p from end) = prefacePieces p ++ (textPiece from end chars ∷ [])
-sayPieces chars attrs (Fields p) = prefacePieces p ++ fieldPieces chars attrs true 0 (length attrs)
+abbrev pub sayPieces : List ℕ → List ℕ → List ℕ → Say → List (List ℕ)
+sayPieces chars attrs marks Silent = []
+sayPieces chars attrs marks (Negotiation verb option) = negotiation verb option ∷ []
+sayPieces chars attrs marks (Two code a) = messagePieces detOption (code ∷ a ∷ [])
+sayPieces chars attrs marks (Three code a b) = messagePieces detOption (code ∷ a ∷ b ∷ [])
+sayPieces chars attrs marks (Preface p) = prefacePieces p
+sayPieces chars attrs marks (Text p from end) = prefacePieces p ++ (textPiece from end chars ∷ [])
+sayPieces chars attrs marks (Fields p) = prefacePieces p ++ fieldPieces chars attrs true 0 (length attrs)
+sayPieces chars attrs marks (Modified width) = modifiedPieces width chars attrs marks 0 (length attrs)

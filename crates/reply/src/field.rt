@@ -52,7 +52,7 @@ fn put_field(
 }
 
 // Where the first unprotected field from the cell on starts; none, the screen's end.
-fn field_from(attrs: &[u8], cell: usize) -> usize
+pub(crate) fn field_from(attrs: &[u8], cell: usize) -> usize
     ensures { λ r. ⌜ r ≡ firstFrom (opensAt (now (attrs .entry))) (now (attrs .entry)) cell (length (now (attrs .entry))) ⌝ }
 {
     first(attrs, Target::UnprotectedStart, cell, attrs.len())

@@ -4,6 +4,7 @@ ghost use Rattle.reply.specs.Written.{Wrote};
 ghost use Rattle.reply.specs.Pieces.{sayPieces};
 use crate::message::put_message;
 use crate::message::put_negotiation;
+use crate::modified::put_modified;
 use crate::transmission::put_form;
 use crate::transmission::put_preface;
 use crate::transmission::put_text;
@@ -13,13 +14,22 @@ use decide::decision::Say;
 mod bytes;
 mod field;
 mod message;
+mod modified;
 pub mod response;
 mod single;
 mod transmission;
 
-// What is said, written from the characters as they are.
-pub fn write_reply(say: Say, chars: &[u8], attrs: &[u8], reply: &mut [u8], at: usize) -> usize
-    ensures { λ r. ⌜ Wrote (now (reply .entry)) at (sayPieces (now (chars .entry)) (now (attrs .entry)) say) (now (reply .exit)) r ⌝ }
+// What is said, written from the characters and the marks as they are.
+pub fn write_reply(
+    say: Say,
+    chars: &[u8],
+    attrs: &[u8],
+    marks: &[u8],
+    reply: &mut [u8],
+    at: usize,
+) -> usize
+    ensures { λ r. ⌜ Wrote (now (reply .entry)) at
+        (sayPieces (now (chars .entry)) (now (attrs .entry)) (now (marks .entry)) say) (now (reply .exit)) r ⌝ }
 {
     match say {
         Say::Silent => at,
@@ -29,5 +39,6 @@ pub fn write_reply(say: Say, chars: &[u8], attrs: &[u8], reply: &mut [u8], at: u
         Say::Preface(place) => put_preface(reply, at, place),
         Say::Text { place, from, end } => put_text(chars, reply, at, place, from, end),
         Say::Fields(place) => put_form(chars, attrs, reply, at, place),
+        Say::Modified { width } => put_modified(chars, attrs, marks, reply, at, width),
     }
 }

@@ -11,7 +11,7 @@ use Rattle.rules.specs.Session.{State, noMaps}
 use Rattle.rules.specs.Facility.{agreed}
 use Rattle.rules.specs.Command.{Row, rows}
 use Rattle.rules.specs.cases.Computing.{computing}
-use Rattle.rules.specs.cases.Vocabulary.{Case, Trial, Passes, characters, case, maps, at, asking, detOff, modes, attributed, unchanged, det, verb, see, keyTrial, observed, expected, seeing}
+use Rattle.rules.specs.cases.Vocabulary.{Case, Trial, Passes, characters, case, maps, at, asking, detOff, modes, attributed, unmarked, unchanged, det, verb, see, keyTrial, observed, expected, seeing}
 use Rattle.rules.proofs.Passing.{each-equal}
 use Rattle.rules.proofs.Worked.{startF, bytes}
 -- the cases of document 01 and of request (i) are checked first
@@ -38,7 +38,7 @@ unfoldable pub agreed-cases : List Case
 agreed-cases =
     unasked "a command that is not agreed draws ERROR 1" (errs 1 16 [] ∷ errs 1 21 [] ∷ errs 1 35 [] ∷ errs 1 37 (3 ∷ 120 ∷ []) ∷ [])
     ∷ unasked "ERROR 1 goes before the parameter count" (errs 1 16 (0 ∷ []) ∷ errs 1 37 [] ∷ errs 1 38 [] ∷ [])
-    ∷ unasked "ERROR 2 goes before ERROR 1" (errs 2 18 [] ∷ errs 2 27 [] ∷ errs 2 42 [] ∷ [])
+    ∷ unasked "ERROR 2 goes before ERROR 1" (errs 2 18 [] ∷ errs 2 28 [] ∷ errs 2 42 [] ∷ [])
     ∷ unasked "ERROR 1 goes before the values" (errs 1 37 (1 ∷ 7 ∷ []) ∷ errs 1 38 (9 ∷ []) ∷ [])
     ∷ unasked "no command byte draws ERROR 10" (bytes (det []) unchanged (det (41 ∷ 0 ∷ 10 ∷ [])) ∷ [])
     ∷ unasked "the bit asked for is agreed, no other"
@@ -48,7 +48,7 @@ agreed-cases =
     ∷ unasked "a map of another class leaves it"
     (edits 4 ∷ does (2 ∷ 4 ∷ []) (asking (maps 4 4 0 0 0)) (det (2 ∷ 31 ∷ []))
     ∷ does (3 ∷ 9 ∷ []) (asking (maps 4 4 9 0 0)) (det (3 ∷ 63 ∷ []))
-    ∷ does (4 ∷ 16 ∷ 32 ∷ []) (asking (maps 4 4 9 16 32)) (det (4 ∷ 144 ∷ 121 ∷ []))
+    ∷ does (4 ∷ 16 ∷ 32 ∷ []) (asking (maps 4 4 9 16 32)) (det (4 ∷ 208 ∷ 121 ∷ []))
     ∷ does (16 ∷ []) (see 3 0 "WT 0  #4UNIT mg ") [] ∷ [])
     ∷ unasked "a facility command that draws an ERROR does not count"
     (edits 4 ∷ errs 10 1 [] ∷ errs 9 1 (16 ∷ 16 ∷ []) ∷ does (16 ∷ []) (see 3 0 "WT 0  #4UNIT mg ") [] ∷ [])
@@ -64,10 +64,10 @@ agreed-cases =
     (does (5 ∷ 0 ∷ 0 ∷ []) (at 0 0) [] ∷ does (12 ∷ []) (at 3 0) []
     ∷ does (36 ∷ 8 ∷ 0 ∷ 0 ∷ 3 ∷ []) (attributed (8 ∷ 8 ∷ 8 ∷ 8 ∷ 8 ∷ 8 ∷ 8 ∷ 8 ∷ 8 ∷ 8 ∷ 8 ∷ 8 ∷ 8 ∷ 0 ∷ 0 ∷ 0 ∷ [])) []
     ∷ does (20 ∷ []) (at 0 0) (det (28 ∷ 0 ∷ 0 ∷ []) ++ characters "WT 70 #4UNIT mg ") ∷ does (41 ∷ 5 ∷ 3 ∷ []) unchanged []
-    ∷ does (29 ∷ []) (λ s. attributed (0 ∷ 0 ∷ 0 ∷ 0 ∷ 0 ∷ 0 ∷ 0 ∷ 0 ∷ 0 ∷ 0 ∷ 0 ∷ 0 ∷ 0 ∷ 0 ∷ 0 ∷ 0 ∷ []) (see 0 0 "                " s)) [] ∷ [])
+    ∷ does (29 ∷ []) (λ s. unmarked (attributed (0 ∷ 0 ∷ 0 ∷ 0 ∷ 0 ∷ 0 ∷ 0 ∷ 0 ∷ 0 ∷ 0 ∷ 0 ∷ 0 ∷ 0 ∷ 0 ∷ 0 ∷ 0 ∷ []) (see 0 0 "                " s))) [] ∷ [])
     ∷ unasked "keys need nothing agreed"
-    (keyTrial 114 127 (see 3 0 "WT 0  #4UNIT mg ") [] ∷ keyTrial 114 128 unchanged (det (40 ∷ 1 ∷ []))
-    ∷ keyTrial 114 13 unchanged (det (28 ∷ 3 ∷ 0 ∷ []) ++ (characters "0  " ++ (det (39 ∷ []) ++ characters "mg "))) ∷ [])
+    (keyTrial 144 127 (see 3 0 "WT 0  #4UNIT mg ") [] ∷ keyTrial 144 128 unchanged (det (40 ∷ 1 ∷ []))
+    ∷ keyTrial 144 13 unchanged (det (28 ∷ 3 ∷ 0 ∷ []) ++ (characters "0  " ++ (det (39 ∷ []) ++ characters "mg "))) ∷ [])
     ∷ []
 
 pub agreed-pass : Passes agreed-cases
@@ -83,7 +83,7 @@ pub record Intersects (m : Maps) (w : ℕ) : Type 0 where
   pub edit : agreed m (EditBit w) ≡ (bit w (m .edit) && bit w 126)
   pub erase : agreed m (EraseBit w) ≡ (bit w (m .erase) && bit w 31)
   pub transmit : agreed m (TransmitBit w) ≡ (bit w (m .transmit) && bit w 63)
-  pub format0 : agreed m (Format0Bit w) ≡ (bit w (m .format0) && bit w 144)
+  pub format0 : agreed m (Format0Bit w) ≡ (bit w (m .format0) && bit w 208)
   pub format1 : agreed m (Format1Bit w) ≡ (bit w (m .format1) && bit w 121)
 
 pub intersects : (m : Maps) (w : ℕ) → Intersects m w
@@ -113,7 +113,7 @@ pub record Governs : Type 0 where
       ≡ [] ∷ (6 ∷ 7 ∷ []) ∷ (8 ∷ 9 ∷ 10 ∷ 11 ∷ []) ∷ (17 ∷ []) ∷ (13 ∷ 14 ∷ []) ∷ (15 ∷ 16 ∷ []) ∷ (19 ∷ []) ∷ [] ∷ []
   pub erase : each (λ w. maps 0 w 0 0 0) ≡ [] ∷ [] ∷ [] ∷ (31 ∷ []) ∷ (30 ∷ []) ∷ (32 ∷ []) ∷ (33 ∷ []) ∷ (34 ∷ []) ∷ []
   pub transmit : each (λ w. maps 0 0 w 0 0) ≡ [] ∷ [] ∷ [] ∷ (22 ∷ []) ∷ (23 ∷ []) ∷ (24 ∷ []) ∷ (25 ∷ []) ∷ (26 ∷ []) ∷ []
-  pub format0 : each (λ w. maps 0 0 0 w 0) ≡ [] ∷ [] ∷ [] ∷ (37 ∷ []) ∷ [] ∷ [] ∷ [] ∷ [] ∷ []
+  pub format0 : each (λ w. maps 0 0 0 w 0) ≡ [] ∷ (27 ∷ []) ∷ [] ∷ (37 ∷ []) ∷ [] ∷ [] ∷ [] ∷ [] ∷ []
   pub format1 : each (λ w. maps 0 0 0 0 w) ≡ [] ∷ (38 ∷ []) ∷ (21 ∷ 35 ∷ []) ∷ [] ∷ [] ∷ [] ∷ [] ∷ [] ∷ []
 
 pub governs : Governs

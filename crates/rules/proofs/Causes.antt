@@ -13,6 +13,7 @@ use Rattle.telnet.specs.declared.Verb.the-variants.{Will, Wont, Do, Dont}
 use Rattle.telnet.specs.declared.Event.{Event}
 use Rattle.telnet.specs.declared.Event.the-variants.{Nothing, Data, Negotiation, Begin, Sub, End, EndBare, Lost}
 use Rattle.telnet.specs.Reader.{readOf}
+use Rattle.edit.specs.declared.range.Shift.{Shift}
 use Rattle.screen.specs.declared.cell.Place.{Place}
 use Rattle.words.specs.Words.{if_then_else_, between}
 use Rattle.words.proofs.Laws.{either, true-or-false, not-both, and-left, and-right, and-off, in-between}
@@ -28,26 +29,26 @@ use Rattle.rules.specs.declared.Held.{Held}
 use Rattle.rules.specs.declared.Reader.{Reader}
 use Rattle.rules.specs.declared.Pad.{Pad}
 use Rattle.rules.specs.declared.Command.{Command}
-use Rattle.rules.specs.declared.Command.the-variants.{Facilities, MoveCursor, SkipToLine, SkipToChar, Move, LineShift, CharShift, ReadCursor, Transmit, Erase, FormatData, Repeat, SuppressProtection, Error}
+use Rattle.rules.specs.declared.Command.the-variants.{Facilities, MoveCursor, SkipToLine, SkipToChar, Move, LineShift, CharShift, ReadCursor, Transmit, TransmitModified, Erase, FormatData, Repeat, SuppressProtection, Error}
 use Rattle.rules.specs.declared.Maps.{Maps}
 use Rattle.rules.specs.declared.Governor.{Governor}
 use Rattle.rules.specs.declared.Fault.{Fault}
 use Rattle.rules.specs.declared.Fault.the-variants.{NoFault, NotAgreed, UnknownCode, OffScreen, TooManyParameters, TooFewParameters, BadValue, BadMap}
 use Rattle.rules.specs.declared.Key.{Key}
 use Rattle.rules.specs.Session.{View, State, printable, cells, x3Cells, switched, withX3, withReceived, lineTakesKeys, viewOf, cursorCell, screenEnd, withCursor, withModes, withFrame, withAttrs}
-use Rattle.rules.specs.Effect.{Effect, Executed, Change, Part, changedAll, changing, saying, quiet}
+use Rattle.rules.specs.Effect.{Effect, Executed, Change, Marking, kept, marking, Part, changedAll, changing, saying, quiet, writing, clearing}
 use Rattle.rules.specs.Facility.{agreed}
 use Rattle.rules.specs.Command.{Row, rows, Listed, listed, unlisted, rowOf, codeIn, parameter, formatCount, valueFault, faultOf}
 use Rattle.rules.specs.Cursor.{cursorGuarded}
 use Rattle.rules.specs.Telnet.{isOn, accepts, turned, switchedOn, switchedOff, negotiated, hostCharacter, hostCharacters, hostData, hostText}
 use Rattle.rules.specs.Pad.{empties, padAfter, takesKey, padTyped, echoedAt, typedTo, passes}
-use Rattle.rules.specs.Subcommand.{transmitted, erasure, suppressing, obeyed, judged, looked, subcommand}
+use Rattle.rules.specs.Subcommand.{transmitted, erasure, shiftingCells, linesGuarded, suppressing, obeyed, judged, looked, subcommand}
 use Rattle.rules.specs.Key.{keyOf, pressed}
 use Rattle.rules.specs.Refusal.{isTaken}
 use Rattle.rules.specs.Operation.{happening, hostByte, applied, running, unless, hostBytes, hostRefusal, pressEffect, padPressed, oneKey, keyRefusal}
 use Rattle.rules.specs.Call.{host, key, called}
 use Rattle.rules.specs.Executed.{oneOf}
-use Rattle.rules.specs.Causes.{Aspect, attributes, det, x3, suppression, received, characters, cursor, values, line, Same, changers, byte, execution, negotiation, keystroke, typing, mayChange, commandCause, messageCause, causeOf, causesIn, keyCause, causesOf, noneChanges, NothingElse, ReaderKept}
+use Rattle.rules.specs.Causes.{Aspect, attributes, det, x3, suppression, received, characters, marks, cursor, values, line, Same, changers, byte, execution, negotiation, keystroke, typing, mayChange, commandCause, messageCause, causeOf, causesIn, keyCause, causesOf, noneChanges, NothingElse, ReaderKept}
 use Rattle.rules.proofs.All.{All, _and_, all-equal}
 use Rattle.rules.proofs.Rows.{in-list, found-code}
 use Rattle.rules.proofs.Options.{by-option}
@@ -62,6 +63,7 @@ record Leaves (may : Aspect → Bool) (v : View) (e : Effect) : Type 0 where
   the-suppression : may suppression ≡ false → e .view .frame .suppressed ≡ v .frame .suppressed
   the-received : may received ≡ false → e .view .frame .received ≡ v .frame .received
   the-characters : may characters ≡ false → e .changes ≡ []
+  the-marks : may marks ≡ false → e .marks ≡ kept
   the-cursor : may cursor ≡ false → e .view .frame .cursor ≡ v .frame .cursor
 
 -- and what is left of the PAD
@@ -72,15 +74,24 @@ record LeavesPad (may : Aspect → Bool) (p q : Pad) : Type 0 where
 -- ---- the kinds of effect
 
 -- the view afterwards, its parts as they were or such that they may change
-abbrev leaving : {may : Aspect → Bool} {v w : View} {cs : List Change} {ps : List Part} {es : List Executed}
+abbrev leaving : {may : Aspect → Bool} {v w : View} {cs : List Change} {m : Marking} {ps : List Part} {es : List Executed}
     → (may attributes ≡ false → w .attrs ≡ v .attrs) → (may det ≡ false → w .frame .det ≡ v .frame .det)
     → (may x3 ≡ false → w .frame .x3 ≡ v .frame .x3)
     → (may suppression ≡ false → w .frame .suppressed ≡ v .frame .suppressed)
     → (may received ≡ false → w .frame .received ≡ v .frame .received) → (may characters ≡ false → cs ≡ [])
-    → (may cursor ≡ false → w .frame .cursor ≡ v .frame .cursor)
-    → Leaves may v (record { view = w; changes = cs; reply = ps; executed = es })
-leaving a b x c m d e =
-    record { the-attributes = a; the-det = b; the-x3 = x; the-suppression = c; the-received = m; the-characters = d; the-cursor = e }
+    → (may marks ≡ false → m ≡ kept) → (may cursor ≡ false → w .frame .cursor ≡ v .frame .cursor)
+    → Leaves may v (record { view = w; changes = cs; marks = m; reply = ps; executed = es })
+leaving a b x c r d m e =
+    record {
+      the-attributes = a;
+      the-det = b;
+      the-x3 = x;
+      the-suppression = c;
+      the-received = r;
+      the-characters = d;
+      the-marks = m;
+      the-cursor = e;
+    }
 
 same : {b : Bool} {A : Type 0} {x : A} → b ≡ false → x ≡ x
 same e = refl
@@ -88,41 +99,62 @@ same e = refl
 module _ {v : View} {may : Aspect → Bool} where
   -- nothing but a reply
   says : {ps : List Part} → Leaves may v (saying v ps)
-  says = leaving same same same same same same same
+  says = leaving same same same same same same same same
 
   moves : {p : Place} {ps : List Part} → may cursor ≡ true → Leaves may v (saying (withCursor v p) ps)
-  moves e = leaving same same same same same same (not-both _ e)
+  moves e = leaving same same same same same same same (not-both _ e)
 
   edits : {cs : List Change} → may characters ≡ true → Leaves may v (changing v cs)
-  edits e = leaving same same same same same (not-both _ e) same
+  edits e = leaving same same same same same (not-both _ e) same same
+
+  -- a shift, a typed character, 27, 35
+  shifts : {c : Change} {from end : ℕ} → may characters ≡ true → may marks ≡ true → Leaves may v (writing v c from end)
+  shifts e d = leaving same same same same same (not-both _ e) (not-both _ d) same
+
+  types : {p : Place} {c : Change} {from end : ℕ} → may characters ≡ true → may marks ≡ true → may cursor ≡ true
+      → Leaves may v (writing (withCursor v p) c from end)
+  types e d c = leaving same same same same same (not-both _ e) (not-both _ d) (not-both _ c)
+
+  sends : {p : Place} {ps : List Part} → may marks ≡ true → may cursor ≡ true → Leaves may v (clearing (saying (withCursor v p) ps))
+  sends e d = leaving same same same same same same (not-both _ e) (not-both _ d)
+
+  blanks : {p : Place} {cs : List Change} → may characters ≡ true → may marks ≡ true → may cursor ≡ true
+      → Leaves may v (clearing (changing (withCursor v p) cs))
+  blanks e d c = leaving same same same same same (not-both _ e) (not-both _ d) (not-both _ c)
 
   writes : {p : Place} {cs : List Change} → may characters ≡ true → may cursor ≡ true → Leaves may v (changing (withCursor v p) cs)
-  writes e d = leaving same same same same same (not-both _ e) (not-both _ d)
+  writes e d = leaving same same same same same (not-both _ e) same (not-both _ d)
 
   formats : {attrs : List ℕ} → may attributes ≡ true → Leaves may v (quiet (withAttrs v attrs))
-  formats e = leaving (not-both _ e) same same same same same same
+  formats e = leaving (not-both _ e) same same same same same same same
 
   -- suppression, DET, the maps received, or all of them; option 30
   suppresses : {off : Bool} {ps : List Part} → may suppression ≡ true → Leaves may v (saying (withModes v (v .frame .det) off) ps)
-  suppresses e = leaving same same same (not-both _ e) same same same
+  suppresses e = leaving same same same (not-both _ e) same same same same
 
   switches : {on : Bool} {ps : List Part} → may det ≡ true → Leaves may v (saying (withModes v on (v .frame .suppressed)) ps)
-  switches e = leaving same (not-both _ e) same same same same same
+  switches e = leaving same (not-both _ e) same same same same same same
 
   asks : {m : Maps} {ps : List Part} → may received ≡ true → Leaves may v (saying (withFrame v (withReceived (v .frame) m)) ps)
-  asks e = leaving same same same same (not-both _ e) same same
+  asks e = leaving same same same same (not-both _ e) same same same
 
   resets : {on off : Bool} {m : Maps} {ps : List Part} → may det ≡ true → may suppression ≡ true → may received ≡ true
       → Leaves may v (saying (withFrame v (withReceived (switched (v .frame) on off) m)) ps)
-  resets e d c = leaving same (not-both _ e) same (not-both _ d) (not-both _ c) same same
+  resets e d c = leaving same (not-both _ e) same (not-both _ d) (not-both _ c) same same same
 
   turns : {on : Bool} {ps : List Part} → may x3 ≡ true → Leaves may v (saying (withFrame v (withX3 (v .frame) on)) ps)
-  turns e = leaving same same (not-both _ e) same same same same
+  turns e = leaving same same (not-both _ e) same same same same same
 
   -- 29: a blank screen
-  clears : {p : Place} {attrs : List ℕ} {cs : List Change} → may attributes ≡ true → may characters ≡ true → may cursor ≡ true
-      → Leaves may v (changing (withAttrs (withCursor v p) attrs) cs)
-  clears e d c = leaving (not-both _ e) same same same same (not-both _ d) (not-both _ c)
+  clears : {p : Place} {attrs : List ℕ} {cs : List Change} → may attributes ≡ true → may characters ≡ true → may marks ≡ true
+      → may cursor ≡ true → Leaves may v (clearing (changing (withAttrs (withCursor v p) attrs) cs))
+  clears e d m c = leaving (not-both _ e) same same same same (not-both _ d) (not-both _ m) (not-both _ c)
+
+-- a shift, unless something is guarded
+shifts-unless : {may : Aspect → Bool} (v : View) (guarded : Bool) (s : Shift) (from end by : ℕ) → may characters ≡ true
+    → may marks ≡ true
+    → Leaves may v (if guarded then quiet v else shiftingCells v s from end by)
+shifts-unless {may} v guarded s from end by e d = either (Leaves may v) guarded (λ g. says) (λ g. shifts e d)
 
 -- a code that is neither SET nor RESPONSE-SET
 not-set : (code : ℕ) → oneOf (0 ∷ 1 ∷ []) code ≡ false → isSet code ≡ false
@@ -141,10 +173,11 @@ module _ {may : Aspect → Bool} (e : may characters ≡ true) (d : may cursor �
 
   -- one effect after another, of those that may change both
   leaves-then : {v : View} (one rest : Effect) {ps : List Part} {es : List Executed} → Leaves may v one → Leaves may (one .view) rest
-      → Leaves may v (record { view = rest .view; changes = one .changes ++ rest .changes; reply = ps; executed = es })
+      → Leaves may v (record { view = rest .view; changes = one .changes ++ rest .changes; marks = kept; reply = ps; executed = es })
   leaves-then one rest a b =
       leaving (λ h. b .the-attributes h ∙ a .the-attributes h) (λ h. b .the-det h ∙ a .the-det h) (λ h. b .the-x3 h ∙ a .the-x3 h)
-      (λ h. b .the-suppression h ∙ a .the-suppression h) (λ h. b .the-received h ∙ a .the-received h) (not-both _ e) (not-both _ d)
+      (λ h. b .the-suppression h ∙ a .the-suppression h) (λ h. b .the-received h ∙ a .the-received h) (not-both _ e) same
+      (not-both _ d)
 
   leaves-characters : (n : ℕ) (v : View) (c : ℕ) → Leaves may v (hostCharacters n v c)
   unfolding hostCharacters
@@ -176,6 +209,7 @@ isMove (LineShift s) = false
 isMove (CharShift s) = false
 isMove ReadCursor = false
 isMove (Transmit area) = false
+isMove TransmitModified = false
 isMove (Erase area) = false
 isMove FormatData = false
 isMove Repeat = false
@@ -201,6 +235,7 @@ module _ (v : View) (h : Held) where
   limits-value (CharShift s) = λ e. cc
   limits-value ReadCursor = λ e. cc
   limits-value (Transmit area) = λ e. cc
+  limits-value TransmitModified = λ e. cc
   limits-value (Erase area) = λ e. cc
   limits-value FormatData =
       either (Limits FormatData) (not (leb (parameter h 0) 31 && eqb (parameter h 1) 0)) (λ q e. cc)
@@ -235,11 +270,12 @@ module _ (v : View) (h : Held) where
       -- 6 to 12
       and moves refl and moves refl and moves refl and moves refl and moves refl and moves refl and moves refl
       -- 13 to 16, 17, 19
-      and edits refl and edits refl and edits refl and edits refl and says and moves refl
-      -- 20 to 26
-      and moves refl and moves refl and moves refl and says and says and says and says
+      and shifts-unless v (linesGuarded v) _ _ _ _ refl refl and shifts-unless v (linesGuarded v) _ _ _ _ refl refl
+      and shifts-unless v (cursorGuarded v) _ _ _ _ refl refl and shifts-unless v (cursorGuarded v) _ _ _ _ refl refl and says and moves refl
+      -- 20 to 27
+      and moves refl and moves refl and moves refl and says and says and says and says and sends refl refl
       -- 29 to 35
-      and clears refl refl refl and edits refl and edits refl and edits refl and edits refl and edits refl and writes refl refl
+      and clears refl refl refl refl and edits refl and edits refl and edits refl and edits refl and edits refl and blanks refl refl refl
       -- 36, 37, 38, 41
       and formats refl and leaves-characters refl refl _ v _ and leaves-suppressing refl _ and says and tt
 
@@ -249,7 +285,7 @@ module _ (v : View) (h : Held) where
 
   leaves-judged : (r : Row) → LeavesRow r → (f : Fault) → (f ≡ OffScreen → eqb (codeIn h) 5 ≡ true) → LeavesCommand (judged v r h f)
   unfolding judged commandCause mayChange changers oneOf
-  leaves-judged r k NoFault l = leaving (k .the-attributes) (k .the-det) (k .the-x3) (k .the-suppression) (k .the-received) (k .the-characters) (k .the-cursor)
+  leaves-judged r k NoFault l = leaving (k .the-attributes) (k .the-det) (k .the-x3) (k .the-suppression) (k .the-received) (k .the-characters) (k .the-marks) (k .the-cursor)
   leaves-judged r k OffScreen l = moves (rw (l refl))
   leaves-judged r k NotAgreed l = says
   leaves-judged r k UnknownCode l = says
@@ -330,12 +366,12 @@ module _ (v : View) where
     pad-kept option =
         true-or-false (eqb option 20 && v .frame .det)
         (λ q h. rw (eqb-true option 20 (and-left (eqb option 20) _ q)))
-        (λ q. true-or-false (eqb option 30 && v .frame .x3) (λ c. rw (q, c) (kept (p .message .stage) refl)) (λ c h. rw c))
+        (λ q. true-or-false (eqb option 30 && v .frame .x3) (λ c. rw (q, c) (by-stage (p .message .stage) refl)) (λ c h. rw c))
       where
-        kept : (at : Stage) → p .message .stage ≡ at → mayChange values (messageCause at) ≡ false → (ended (p .values) (p .message)) .values ≡ p .values
-        kept Code e h = rw e
-        kept (Parameter code) e h = rw (e, not-set code h)
-        kept (Value code parameter) e h = rw e
+        by-stage : (at : Stage) → p .message .stage ≡ at → mayChange values (messageCause at) ≡ false → (ended (p .values) (p .message)) .values ≡ p .values
+        by-stage Code e h = rw e
+        by-stage (Parameter code) e h = rw (e, not-set code h)
+        by-stage (Value code parameter) e h = rw e
 
     leaves-pad : (e : Event) → LeavesPad (λ a. mayChange a (causeOf v r p e)) p (padAfter (v .frame) p e)
     unfolding padAfter causeOf
@@ -354,11 +390,11 @@ module _ (v : View) where
   unfolding keyOf pressed transmitted mayChange changers oneOf
   leaves-meaning k =
       let L : Key → Type 0 = λ key. Leaves (λ a. mayChange a (keystroke k)) v (pressed v key) in
-      either L (printable k) (λ q. writes (rw q) (rw q))
+      either L (printable k) (λ q. types (rw q) (rw q) (rw q))
       (λ q. either L (eqb k 8) (λ e. moves (rw (q, e)))
       (λ e. either L (eqb k 9) (λ f. moves (rw (q, e, f)))
       (λ f. either L (eqb k 13) (λ g. moves (rw (q, e, f, g)))
-      (λ g. either L (eqb k 127) (λ i. edits (rw (q, i))) (λ i. either L (between 128 143 k) (λ j. says) (λ j. says))))))
+      (λ g. either L (eqb k 127) (λ i. shifts-unless v (cursorGuarded v) _ _ _ _ (rw (q, i)) (rw (q, i))) (λ i. either L (between 128 143 k) (λ j. says) (λ j. says))))))
 
   -- 0 is no edit key, and its echo is no character
   zero-echo : (p : Pad) → hostText v (echoedAt p 0) ≡ quiet v
@@ -379,7 +415,8 @@ module _ (v : View) where
       (λ e.
       let some : between 1 127 k ≡ true = in-between 1 127 k (omega (arith, eqb-false k 0 e)) (omega (arith, ltb-true k 128 h)) in
       let text = leaves-text {may = λ a. mayChange a (typing k)} some some (echoedAt p k) v in
-      leaving (text .the-attributes) (text .the-det) (text .the-x3) (text .the-suppression) (text .the-received) (text .the-characters) (text .the-cursor))
+      leaving (text .the-attributes) (text .the-det) (text .the-x3) (text .the-suppression) (text .the-received) (text .the-characters)
+      (text .the-marks) (text .the-cursor))
 
 leaves-key : (s : State) (k : ℕ) → Leaves (λ a. mayChange a (keyCause (s .session .frame) k)) (viewOf s) (pressEffect s k)
 unfolding keyCause
@@ -402,13 +439,14 @@ key-pad s k =
 
 same-applied : (a : Aspect) {may : Aspect → Bool} (s : State) (r : Reader) (p : Pad) (e : Effect) → may a ≡ false → Leaves may (viewOf s) e
     → LeavesPad may (s .session .pad) p → Same a s ((applied s r p e) .state)
-unfolding changedAll
+unfolding changedAll marking
 same-applied attributes s r p e h k l = k .the-attributes h
 same-applied det s r p e h k l = k .the-det h
 same-applied x3 s r p e h k l = k .the-x3 h
 same-applied suppression s r p e h k l = k .the-suppression h
 same-applied received s r p e h k l = k .the-received h
 same-applied characters s r p e h k l = rw (k .the-characters h)
+same-applied marks s r p e h k l = rw (k .the-marks h)
 same-applied cursor s r p e h k l = k .the-cursor h
 same-applied values s r p e h k l = l .the-values h
 same-applied line s r p e h k l = l .the-line h
@@ -421,6 +459,7 @@ same-refl x3 s = refl
 same-refl suppression s = refl
 same-refl received s = refl
 same-refl characters s = refl
+same-refl marks s = refl
 same-refl cursor s = refl
 same-refl values s = refl
 same-refl line s = refl
@@ -432,6 +471,7 @@ same-then x3 s t u p q = q ∙ p
 same-then suppression s t u p q = q ∙ p
 same-then received s t u p q = q ∙ p
 same-then characters s t u p q = q ∙ p
+same-then marks s t u p q = q ∙ p
 same-then cursor s t u p q = q ∙ p
 same-then values s t u p q = q ∙ p
 same-then line s t u p q = q ∙ p

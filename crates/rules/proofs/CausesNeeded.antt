@@ -18,18 +18,20 @@ use Rattle.rules.specs.Refusal.{verdict}
 use Rattle.rules.specs.Operation.{running, pressTests, keyRan}
 use Rattle.rules.specs.Call.{Call, host, key, called, left}
 use Rattle.rules.specs.Executed.{oneOf}
-use Rattle.rules.specs.Causes.{Aspect, attributes, det, x3, suppression, received, characters, cursor, values, line, changers}
+use Rattle.rules.specs.Causes.{Aspect, attributes, det, x3, suppression, received, characters, marks, cursor, values, line, changers}
 use Rattle.rules.specs.cases.Computing.{computing}
-use Rattle.rules.specs.cases.Vocabulary.{Seen, lent, flag, same, failures, starting, modes, x3Switched, padded, seeing}
+use Rattle.rules.specs.cases.Vocabulary.{Seen, lent, flag, same, failures, starting, modes, marked, x3Switched, padded, seeing}
 use Rattle.rules.specs.cases.Vocabulary as word
 use Rattle.rules.proofs.Passing.{failures-same, briefly}
 use Rattle.rules.proofs.Ready.{passing, ready, key-full, byte-full}
 -- that nothing else changes it is checked first
 use Rattle.rules.proofs.Causes.{nothing-else}
 
--- four cells by three with this text, three fields of one line each, the cursor at (1,1), DET on and protection suppressed
+-- four cells by three with this text, three fields of one line each, the first cell marked and no other, the cursor at (1,1), DET on and
+-- protection suppressed
 abbrev starts : String → State
-starts text = starting 4 3 true (word.characters text) (replicate 4 0 ++ (replicate 4 1 ++ replicate 4 2)) 1 1
+starts text =
+    marked (1 ∷ replicate 11 0) (starting 4 3 true (word.characters text) (replicate 4 0 ++ (replicate 4 1 ++ replicate 4 2)) 1 1)
 
 abbrev start : State
 start = starts "abcdefghijkl"
@@ -45,13 +47,14 @@ differs suppression s t = not (eqb (flag (s .session .frame .suppressed)) (flag 
 differs received s t = let m = s .session .frame .received in let n = t .session .frame .received in
     not (same (m .edit ∷ m .erase ∷ m .transmit ∷ m .format0 ∷ m .format1 ∷ []) (n .edit ∷ n .erase ∷ n .transmit ∷ n .format0 ∷ n .format1 ∷ []))
 differs characters s t = not (same (s .screen .chars) (t .screen .chars))
+differs marks s t = not (same (s .screen .marks) (t .screen .marks))
 differs cursor s t = not (eqb (cellOf 4 (s .session .frame .cursor)) (cellOf 4 (t .session .frame .cursor)))
 differs values s t = not (same (s .session .pad .values .held) (t .session .pad .values .held))
 differs line s t = not (eqb (s .session .pad .line .len) (t .session .pad .line .len))
 
--- a call with the least reply room, 86, changes it
+-- a call with the least reply room, 108, changes it
 abbrev changes : Aspect → State → (List ℕ → Call) → Bool
-changes a s call = differs a s (left (called s (call (replicate 86 lent))))
+changes a s call = differs a s (left (called s (call (replicate 108 lent))))
 
 -- whatever character it writes, it changes the one text or the other
 abbrev changesOne : Aspect → (List ℕ → Call) → Bool
@@ -81,9 +84,9 @@ wide on k =
     (padWith (record { held = set (set (set (set (startValues .held) 2 1) 15 1) 16 k) 19 42 }) (lineOf (word.characters "ab")) idleMessage)
     (x3Switched on (modes false false (starting 37 1 false (replicate 37 97) (replicate 37 0) 1 0)))
 
--- a call with the least reply room, 261, changes it
+-- a call with the least reply room, 333, changes it
 abbrev changesWide : Aspect → State → (List ℕ → Call) → Bool
-changesWide a s call = differs a s (left (called s (call (replicate 261 lent))))
+changesWide a s call = differs a s (left (called s (call (replicate 333 lent))))
 
 -- a negotiation: DO where the option is off, DONT where it is on
 abbrev negotiates : Aspect → ℕ → Bool
@@ -107,22 +110,22 @@ pub record EachChanges (a : Aspect) : Type 0 where
 
 -- ---- by what a call leaves once it has passed the tests of every call
 
-byte-changes : (a : Aspect) (s : State) → ready s (replicate 86 lent) ≡ true → (b : ℕ)
+byte-changes : (a : Aspect) (s : State) → ready s (replicate 108 lent) ≡ true → (b : ℕ)
     → changes a s (host (b ∷ [])) ≡ differs a s ((running s (b ∷ [])) .state)
-byte-changes a s r b = ap (λ (o : Seen). differs a s (o .left)) (byte-full s 86 r b)
+byte-changes a s r b = ap (λ (o : Seen). differs a s (o .left)) (byte-full s 108 r b)
 
 -- what a key leaves
 abbrev pressedTo : State → ℕ → State
 pressedTo s k = (briefly (verdict (pressTests s k)) s 1 (keyRan s k)) .left
 
-key-changes : (a : Aspect) (s : State) → ready s (replicate 86 lent) ≡ true → (k : ℕ) → changes a s (key k) ≡ differs a s (pressedTo s k)
-key-changes a s r k = ap (λ (o : Seen). differs a s (o .left)) (key-full s 86 r k)
+key-changes : (a : Aspect) (s : State) → ready s (replicate 108 lent) ≡ true → (k : ℕ) → changes a s (key k) ≡ differs a s (pressedTo s k)
+key-changes a s r k = ap (λ (o : Seen). differs a s (o .left)) (key-full s 108 r k)
 
-start-ready : ready start (replicate 86 lent) ≡ true
+start-ready : ready start (replicate 108 lent) ≡ true
 unfolding computing seeing ready passing
 start-ready = refl
 
-other-ready : ready other (replicate 86 lent) ≡ true
+other-ready : ready other (replicate 108 lent) ≡ true
 unfolding computing seeing ready passing
 other-ready = refl
 
@@ -145,11 +148,12 @@ line-takes x3 k e = not-both false e refl
 line-takes suppression k e = not-both false e refl
 line-takes received k e = not-both false e refl
 line-takes characters k e = and-right (leb 1 k) _ e
+line-takes marks k e = not-both false e refl
 line-takes cursor k e = and-right (leb 1 k) _ e
 line-takes values k e = not-both false e refl
 line-takes line k e = and-right (leb 0 k) _ e
 
-wide-ready : (k : ℕ) → leb k 127 ≡ true → ready (wide true k) (replicate 261 lent) ≡ true
+wide-ready : (k : ℕ) → leb k 127 ≡ true → ready (wide true k) (replicate 333 lent) ≡ true
 unfolding computing seeing ready passing
 wide-ready k h = rw (leb·zero k, h)
 
@@ -162,7 +166,7 @@ by-typed a p =
     true-or-false (changers a .typed k)
     (λ t.
     ap (λ (o : Seen). not (changers a .typed k) || differs a (wide true k) (o .left))
-    (key-full (wide true k) 261 (wide-ready k (line-takes a k t)) k))
+    (key-full (wide true k) 333 (wide-ready k (line-takes a k t)) k))
     (λ t. rw t))
     ∙ p
 
@@ -245,6 +249,19 @@ by-characters =
       typed = by-typed characters refl;
     }
 
+by-marks : EachChanges marks
+unfolding computing seeing oneOf changers differs idle
+by-marks =
+    record {
+      text = by-text marks refl;
+      executed = refl;
+      failed = refl;
+      verbs = refl;
+      messages = refl;
+      keys = by-keys marks refl;
+      typed = by-typed marks refl;
+    }
+
 by-cursor : EachChanges cursor
 unfolding computing seeing oneOf changers differs idle
 by-cursor =
@@ -291,6 +308,7 @@ each-changes x3 = by-x3
 each-changes suppression = by-suppression
 each-changes received = by-received
 each-changes characters = by-characters
+each-changes marks = by-marks
 each-changes cursor = by-cursor
 each-changes values = by-values
 each-changes line = by-line

@@ -12,11 +12,13 @@ use Rattle.telnet.specs.declared.Verb.the-variants.{Will, Wont, Do, Dont}
 use Rattle.telnet.specs.declared.Event.{Event}
 use Rattle.telnet.specs.declared.Event.the-variants.{Nothing, Data, Negotiation, Begin, Sub, End, EndBare, Lost}
 use Rattle.telnet.specs.Writer.{doubled, subnegotiation, negotiation}
+use Rattle.edit.specs.declared.range.Shift.{Shift}
+use Rattle.edit.specs.declared.range.Shift.the-variants.{Deletion}
 use Rattle.screen.specs.declared.cell.Place.{Place}
 use Rattle.words.specs.Words.{if_then_else_, between}
 use Rattle.screen.specs.Cells.{placeOf}
 use Rattle.words.proofs.Laws.{either, not-both, and-left, and-right}
-use Rattle.edit.proofs.EditLaws.{formatted-length}
+use Rattle.edit.proofs.EditLaws.{filled-length}
 use Rattle.pad.specs.Message.{ended}
 use Rattle.rules.specs.declared.Held.{Held}
 use Rattle.rules.specs.declared.Reader.{Reader}
@@ -27,28 +29,28 @@ use Rattle.rules.specs.declared.Destination.the-variants.{Down, Left, Co
 use Rattle.rules.specs.declared.Area.{Area}
 use Rattle.rules.specs.declared.Area.the-variants.{WholeScreen, Unprotected, WholeLine, WholeField, RestOfScreen, RestOfLine, RestOfField}
 use Rattle.rules.specs.declared.Command.{Command}
-use Rattle.rules.specs.declared.Command.the-variants.{Facilities, MoveCursor, SkipToLine, SkipToChar, Move, LineShift, CharShift, ReadCursor, Transmit, Erase, FormatData, Repeat, SuppressProtection, Error}
+use Rattle.rules.specs.declared.Command.the-variants.{Facilities, MoveCursor, SkipToLine, SkipToChar, Move, LineShift, CharShift, ReadCursor, Transmit, TransmitModified, Erase, FormatData, Repeat, SuppressProtection, Error}
 use Rattle.rules.specs.declared.Fault.{Fault}
 use Rattle.rules.specs.declared.Maps.{Maps}
 use Rattle.rules.specs.declared.Fault.the-variants.{NoFault, NotAgreed, UnknownCode, OffScreen, TooManyParameters, TooFewParameters, BadValue, BadMap}
 use Rattle.rules.specs.declared.Key.{Key}
 use Rattle.rules.specs.declared.Key.the-variants.{Typed, Back, Tab, Send, Delete, Function, Meaningless}
 use Rattle.rules.specs.Session.{View, State, printable, cells, x3Cells, withReceived, lineTakesKeys, viewOf, withFrame}
-use Rattle.rules.specs.Effect.{Effect, Change, Part, bytes, text, changedAll, message, changing, saying, quiet}
+use Rattle.rules.specs.Effect.{Effect, Change, Marking, Part, bytes, text, changedAll, message, changing, saying, quiet}
 use Rattle.rules.specs.Number.{detOption, dataTransmit, cursorPosition, error}
 use Rattle.rules.specs.Facility.{ownMap}
 use Rattle.rules.specs.Cursor.{cursorGuarded}
 use Rattle.rules.specs.Telnet.{isOn, accepts, turned, switchedOn, switchedOff, negotiated, hostCharacter, hostCharacters, hostData, hostText}
 use Rattle.rules.specs.Pad.{isX3, counts, response, takesKey, echoedAt, typedTo, passes}
 use Rattle.rules.specs.Command.{Row, Listed, listed, unlisted, parameter, placeIn, valueFault, faultOf}
-use Rattle.rules.specs.Subcommand.{preface, unlessGuarded, fieldFrom, transmitted, erasure, linesGuarded, suppressing, obeyed, judged, looked, subcommand}
+use Rattle.rules.specs.Subcommand.{prefaceBytes, preface, unlessGuarded, fieldFrom, transmitted, transmittedModified, erasure, shiftingCells, linesGuarded, suppressing, obeyed, judged, looked, subcommand}
 use Rattle.rules.specs.Key.{keyOf, pressed}
 use Rattle.rules.specs.Operation.{happening, pressEffect}
 use Rattle.rules.proofs.Characters.{Text, Fine, text-changed, changed-append}
 use Rattle.rules.proofs.Errors.{no-fault}
 use Rattle.rules.proofs.Options.{by-option}
 use Rattle.rules.proofs.Pads.{SoundPad, sent-most}
-use Rattle.rules.proofs.Replies.{InRoom, Follows, fits-nothing, fits-bytes, fits-within, fits-prefaced, place-message, error-message, function-message, response-message, one-text, no-text, fields-text}
+use Rattle.rules.proofs.Replies.{InRoom, Follows, fits-nothing, fits-bytes, fits-within, fits-prefaced, place-message, error-message, function-message, response-message, one-text, no-text, fields-text, modified-text}
 use Rattle.rules.proofs.Views.{On, SoundView, at-place, switched, asked, turned-x3, attributed, limited-on, skipped-line-on, skipped-char-on, place-on, some, field-lt, cursor-lt, destination-on, goes}
 
 -- what an effect keeps on a screen m cells wide and n lines high
@@ -74,7 +76,9 @@ module _ {m n : ℕ} {v : View} (k : SoundView m n v) where
   tells : (bs : List ℕ) → length bs ≤ 9 → Keeps m n (saying v (bytes bs ∷ []))
   tells bs l = says _ (fits-bytes m n cells-some bs l)
 
-  changes : (c : Change) → Fine c → Keeps m n (changing v (c ∷ []))
+  -- one change, whatever becomes of the marks
+  changes : (c : Change) → Fine c → {marks : Marking}
+      → Keeps m n (record { view = v; changes = c ∷ []; marks = marks; reply = []; executed = [] })
   unfolding changedAll
   changes c f =
       record { view = k; changes = λ attrs chars t. text-changed chars attrs c f t; reply = fits-nothing m n; executed = omega arith }
@@ -186,6 +190,20 @@ module _ {m n : ℕ} {v : View} (k : SoundView m n v) where
   keeps-transmitted WholeField = sends-field _ (place-on k _ (field-lt k))
   keeps-transmitted RestOfField = sends-field _ (place-on k _ (cursor-lt k))
 
+  -- 27
+  place-bytes : (j : ℕ) → j < length (v .attrs) → length (prefaceBytes (placeOf (v .frame .width) j)) ≡ 8
+  place-bytes j h = place-long k dataTransmit refl _ (place-on k j h)
+
+  keeps-modified : Keeps m n (transmittedModified v)
+  unfolding changedAll
+  keeps-modified =
+      record {
+        view = goes k FirstField;
+        changes = λ attrs chars t. t;
+        reply = modified-text m n (v .attrs) (v .frame .width) (k .attrs) place-bytes;
+        executed = omega arith;
+      }
+
   keeps-erasure : (a : Area) → Keeps m n (erasure v a)
   unfolding erasure
   keeps-erasure WholeScreen = changes (attributed (goes k Corner) _ (length-replicate _ 0)) _ tt
@@ -212,9 +230,9 @@ module _ {m n : ℕ} {v : View} (k : SoundView m n v) where
   keeps-map Transmitting m₁ = tells (asked k m₁) _ (omega arith)
   keeps-map Formatting m₁ = tells (asked k m₁) _ (omega arith)
 
-  -- a change, unless something is guarded
-  changes-unless : (guarded : Bool) (c : Change) → Fine c → Keeps m n (changing v (if guarded then [] else c ∷ []))
-  changes-unless guarded c f = either (λ cs. Keeps m n (changing v cs)) guarded (λ g. quietly k) (λ g. changes k c f)
+  -- a shift, unless something is guarded
+  shifts-unless : (guarded : Bool) (s : Shift) (from end by : ℕ) → Keeps m n (if guarded then quiet v else shiftingCells v s from end by)
+  shifts-unless guarded s from end by = either (Keeps m n) guarded (λ g. quietly k) (λ g. changes k _ tt)
 
   keeps-obeyed : (c : Command) (h : Held) → valueFault v c h ≡ NoFault → Keeps m n (obeyed v c h)
   unfolding obeyed valueFault
@@ -223,12 +241,13 @@ module _ {m n : ℕ} {v : View} (k : SoundView m n v) where
   keeps-obeyed SkipToLine h e = quietly (at-place k _ (skipped-line-on k (parameter h 0)))
   keeps-obeyed SkipToChar h e = quietly (at-place k _ (skipped-char-on k (parameter h 0)))
   keeps-obeyed (Move to) h e = quietly (goes k to)
-  keeps-obeyed (LineShift s) h e = changes-unless (linesGuarded v) _ tt
-  keeps-obeyed (CharShift s) h e = changes-unless (cursorGuarded v) _ tt
+  keeps-obeyed (LineShift s) h e = shifts-unless (linesGuarded v) s _ _ _
+  keeps-obeyed (CharShift s) h e = shifts-unless (cursorGuarded v) s _ _ _
   keeps-obeyed ReadCursor h e = tells k _ (omega (arith, place-long k cursorPosition refl (v .frame .cursor) (k .cursor)))
   keeps-obeyed (Transmit a) h e = keeps-transmitted a
+  keeps-obeyed TransmitModified h e = keeps-modified
   keeps-obeyed (Erase a) h e = keeps-erasure a
-  keeps-obeyed FormatData h e = quietly (attributed k _ (formatted-length _ _ _ _))
+  keeps-obeyed FormatData h e = quietly (attributed k _ (filled-length _ _ _ _))
   keeps-obeyed Repeat h e = keeps-characters (parameter h 0) k _ (chosen (printable (parameter h 1)) e)
   keeps-obeyed SuppressProtection h e = keeps-suppressing _
   keeps-obeyed Error h e = quietly k
@@ -311,7 +330,7 @@ keeps-pressed k (Typed c) p = changes (goes k NextOpen) _ p
 keeps-pressed k Back p = quietly (goes k PreviousOpen)
 keeps-pressed k Tab p = quietly (goes k NextField)
 keeps-pressed k Send p = keeps-transmitted k Unprotected
-keeps-pressed {v = v} k Delete p = changes-unless k (cursorGuarded v) _ tt
+keeps-pressed {v = v} k Delete p = shifts-unless k (cursorGuarded v) Deletion _ _ _
 keeps-pressed k (Function f) p = tells k _ (function-message f)
 keeps-pressed k Meaningless p = quietly k
 

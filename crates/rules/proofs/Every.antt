@@ -63,14 +63,14 @@ use Rattle.rules.specs.cases.Vocabulary.{
 use Rattle.rules.proofs.Passing.{same-equal, below-passes, briefly, everywhere}
 use Rattle.rules.proofs.Ready.{passing, ready, key-full, byte-full, pad-kept}
 -- the worked cases are checked first
-use Rattle.rules.proofs.Lines.{lines-hold}
+use Rattle.rules.proofs.Touched.{touched-holds}
 
 -- ---- the 256 codes
 
 -- how many parameters the document's list gives a code, if it has the code
 unfoldable pub listedParameters : ℕ → List ℕ
 listedParameters code =
-    if oneOf (8 ∷ 9 ∷ 10 ∷ 11 ∷ 12 ∷ 13 ∷ 14 ∷ 15 ∷ 16 ∷ 17 ∷ 19 ∷ 20 ∷ 21 ∷ 22 ∷ 23 ∷ 24 ∷ 25 ∷ 26 ∷ 29 ∷ 30 ∷ 31 ∷ 32 ∷ 33 ∷ 34 ∷ 35 ∷ []) code
+    if oneOf (8 ∷ 9 ∷ 10 ∷ 11 ∷ 12 ∷ 13 ∷ 14 ∷ 15 ∷ 16 ∷ 17 ∷ 19 ∷ 20 ∷ 21 ∷ 22 ∷ 23 ∷ 24 ∷ 25 ∷ 26 ∷ 27 ∷ 29 ∷ 30 ∷ 31 ∷ 32 ∷ 33 ∷ 34 ∷ 35 ∷ []) code
     then 0 ∷ []
     else if oneOf (1 ∷ 2 ∷ 3 ∷ 6 ∷ 7 ∷ 38 ∷ []) code then 1 ∷ []
     else if oneOf (4 ∷ 5 ∷ 37 ∷ 41 ∷ []) code then 2 ∷ []
@@ -97,7 +97,7 @@ every-other-code v h n e = rw (n, e)
 
 -- ---- the 256 keys
 
--- three cells "abc" of no class, two fields "ab" and "c", the cursor on "b", DET on or off; the least reply room is 23
+-- three cells "abc" of no class, two fields "ab" and "c", the cursor on "b", DET on or off; the least reply room is 27
 abbrev keyed : Bool → State
 keyed on = modes on false (starting 3 1 false (characters "abc") (0 ∷ 0 ∷ 1 ∷ []) 1 0)
 
@@ -115,18 +115,18 @@ keyDoes on k =
     else brief 9 0 s []
 
 abbrev keySweep : String → Bool → Sweep
-keySweep title on = sweep title 23 (λ k. look (called (keyed on) (key k (replicate 23 lent)))) (λ k. freshPad) (keyDoes on)
+keySweep title on = sweep title 27 (λ k. look (called (keyed on) (key k (replicate 27 lent)))) (λ k. freshPad) (keyDoes on)
 
 -- by the key's own tests and what it does
 abbrev keyTold : Bool → ℕ → Brief
 keyTold on k = briefly (verdict (pressTests (keyed on) k)) (keyed on) 1 (keyRan (keyed on) k)
 
-key-swept : (title : String) (on : Bool) → ready (keyed on) (replicate 23 lent) ≡ true
+key-swept : (title : String) (on : Bool) → ready (keyed on) (replicate 27 lent) ≡ true
     → ifNone (failures (λ k. sameBeside (keyTold on k) ((keySweep title on) .shows k)) 256) title → Everywhere (keySweep title on)
 key-swept title on r p =
     everywhere
     (record {
-      full = λ k. key-full (keyed on) 23 r k;
+      full = λ k. key-full (keyed on) 27 r k;
       pad = λ k h. pad-kept (verdict (pressTests (keyed on) k)) (keyed on) 1 (keyRan (keyed on) k) refl;
       beside = p;
     })
@@ -147,7 +147,7 @@ every-key-off = key-swept "every key, DET off" false refl tt
 
 -- ---- every byte of host data at rest
 
--- three cells by two, nothing protected, the cursor on "c", DET on or off; the least reply room is 44
+-- three cells by two, nothing protected, the cursor on "c", DET on or off; the least reply room is 54
 abbrev resting : Bool → State
 resting on = modes on false (starting 3 2 false (characters "abcdef") (replicate 6 0) 2 0)
 
@@ -164,7 +164,7 @@ dataDoes on b =
     else leaves s
 
 abbrev dataSweep : String → Bool → Sweep
-dataSweep title on = sweep title 44 (λ b. look (called (resting on) (host (b ∷ []) (replicate 44 lent)))) (λ b. freshPad) (dataDoes on)
+dataSweep title on = sweep title 54 (λ b. look (called (resting on) (host (b ∷ []) (replicate 54 lent)))) (λ b. freshPad) (dataDoes on)
 
 -- what is told of a host byte that is taken
 abbrev byteTold : State → ℕ → Brief
@@ -175,10 +175,10 @@ unfolding running hostByte padAfter reader
 data-pad on b =
     either (λ (told : Step). padAfter ((resting on) .session .frame) freshPad (told .event) ≡ freshPad) (eqb b 255) (λ e. refl) (λ e. refl)
 
-data-swept : (title : String) (on : Bool) → ready (resting on) (replicate 44 lent) ≡ true
+data-swept : (title : String) (on : Bool) → ready (resting on) (replicate 54 lent) ≡ true
     → ifNone (failures (λ b. sameBeside (byteTold (resting on) b) ((dataSweep title on) .shows b)) 256) title → Everywhere (dataSweep title on)
 data-swept title on r p =
-    everywhere (record { full = λ b. byte-full (resting on) 44 r b; pad = λ b h. data-pad on b; beside = p })
+    everywhere (record { full = λ b. byte-full (resting on) 54 r b; pad = λ b h. data-pad on b; beside = p })
 
 abbrev dataOn : Sweep
 dataOn = dataSweep "every byte of host data, DET on" true
@@ -196,7 +196,7 @@ every-data-off = data-swept "every byte of host data, DET off" false refl tt
 
 -- ---- every value of a parameter
 
--- "ab", nothing protected, the cursor at (0,0), and a command whose bytes are held: SE ends it. The least reply room is 16.
+-- "ab", nothing protected, the cursor at (0,0), and a command whose bytes are held: SE ends it. The least reply room is 18.
 abbrev small : State
 small = starting 2 1 false (characters "ab") (replicate 2 0) 0 0
 
@@ -215,7 +215,7 @@ abbrev ending : String → ℕ → (ℕ → List ℕ) → (ℕ → Brief) → En
 ending title code parameters shows = record { title = title; code = code; held = λ n. code ∷ parameters n; shows = shows }
 
 abbrev endSweep : Ending → Sweep
-endSweep e = sweep (e .title) 16 (λ n. look (called (holding (e .held n)) (host (240 ∷ []) (replicate 16 lent)))) (λ n. freshPad) (e .shows)
+endSweep e = sweep (e .title) 18 (λ n. look (called (holding (e .held n)) (host (240 ∷ []) (replicate 18 lent)))) (λ n. freshPad) (e .shows)
 
 -- the row of a code is found once
 abbrev rowIs : Listed → Row
@@ -237,7 +237,7 @@ end-told r held e = rw e
 
 -- no byte held hinders the call, and the code is in the list
 pub record Ended (e : Ending) (n : ℕ) : Type 0 where
-  pub passes : ready (holding (e .held n)) (replicate 16 lent) ≡ true
+  pub passes : ready (holding (e .held n)) (replicate 18 lent) ≡ true
   pub found : rowOf (codeIn ((holding (e .held n)) .session .reader .held)) ≡ listed (rowIs (rowOf (e .code)))
 
 abbrev endTest : Ending → ℕ → Bool
@@ -249,8 +249,8 @@ end-swept e d p =
     everywhere
     (record {
       full = λ n.
-          byte-full (holding (e .held n)) 16 (d n .passes) 240
-          ∙ ap (inFull 16) (end-told (rowIs (rowOf (e .code))) (e .held n) (d n .found));
+          byte-full (holding (e .held n)) 18 (d n .passes) 240
+          ∙ ap (inFull 18) (end-told (rowIs (rowOf (e .code))) (e .held n) (d n .found));
       pad = λ n h. refl;
       beside = p;
     })
@@ -359,7 +359,7 @@ pub record Constant (v : View) (h : Held) : Type 0 where
   pub transmit-map : let m = v .frame .received in obeyed v (Facilities Transmitting) h
       ≡ answered v (maps (m .edit) (m .erase) (getD (h .bytes) 1 0) (m .format0) (m .format1)) (3 ∷ 63 ∷ [])
   pub format-map : let m = v .frame .received in obeyed v (Facilities Formatting) h
-      ≡ answered v (maps (m .edit) (m .erase) (m .transmit) (getD (h .bytes) 1 0) (getD (h .bytes) 2 0)) (4 ∷ 144 ∷ 121 ∷ [])
+      ≡ answered v (maps (m .edit) (m .erase) (m .transmit) (getD (h .bytes) 1 0) (getD (h .bytes) 2 0)) (4 ∷ 208 ∷ 121 ∷ [])
   pub error-nothing : obeyed v Error h ≡ quiet v
 
 pub every-map : (v : View) (h : Held) → Constant v h
@@ -411,7 +411,7 @@ every-option v =
 -- ---- every width and height: open refuses 1 outside 1 to 132 and 1 to 64, and 2 within, no cell being lent
 
 abbrev openSeen : ℕ → ℕ → ℕ
-openSeen m n = numberOf ((opened m n (screen [] [])) .answer .refusal)
+openSeen m n = numberOf ((opened m n (screen [] [] [])) .answer .refusal)
 
 widths : failures (λ m. eqb (openSeen m 1) (if between 1 132 m then 2 else 1)) 256 ≡ []
 unfolding computing seeing

@@ -5,6 +5,7 @@ pub mod Ready
 pub mod Slow
 pub mod Agreed
 pub mod Lines
+pub mod Touched
 pub mod All
 pub mod Rows
 pub mod Every
@@ -17,6 +18,7 @@ pub mod Errors
 pub mod Calls
 pub mod Pads
 pub mod Characters
+pub mod Marks
 pub mod Replies
 pub mod Views
 pub mod Effects

@@ -17,7 +17,7 @@ use Rattle.rules.proofs.Worked.{startF}
 use Rattle.rules.proofs.Agreed.{agreed-holds}
 
 -- ---- starts: "ABC" over "DEF" over "GHI" with the cursor at (1,y), nothing protected, or one cell, protection in effect or suppressed.
--- The least reply room is 65. Form F has 114.
+-- The least reply room is 81. Form F has 144.
 
 abbrev lines : Bool → List ℕ → ℕ → State
 lines suppressed attrs y = starting 3 3 suppressed (characters "ABCDEFGHI") attrs 1 y
@@ -34,7 +34,7 @@ form title trials = case title (startF 3 0) trials
 -- ---- trials: a command, its parameters as they are sent, and what it leaves; one that draws an ERROR
 
 abbrev does : List ℕ → (State → State) → List ℕ → Trial
-does payload leaves answer = hostTrial 114 (det payload) (length (det payload)) leaves answer
+does payload leaves answer = hostTrial 144 (det payload) (length (det payload)) leaves answer
 
 -- a line command, and the text that it leaves
 abbrev shows : ℕ → String → Trial

@@ -28,6 +28,10 @@ use Rattle.rules.proofs.Causes.{nothing-else}
 abbrev attrs : List ℕ
 attrs = replicate 3 8 ++ (replicate 3 0 ++ (replicate 7 8 ++ replicate 3 0))
 
+-- the weight's first cell is marked, and a protected one
+abbrev marks : List ℕ
+marks = replicate 3 0 ++ (1 ∷ (replicate 3 0 ++ (1 ∷ replicate 8 0)))
+
 abbrev at : ℕ → ℕ → Session
 at x y = (starting 8 2 false [] attrs x y) .session
 
@@ -59,13 +63,13 @@ premised x y =
       alike = record { long = refl; unprotected = λ i h e. same-beside i e };
     }
 
--- ---- calls with reply room 114, and what is seen of them
+-- ---- calls with reply room 144, and what is seen of them
 
 abbrev press : ℕ → Call
-press k = key k (replicate 114 0)
+press k = key k (replicate 144 0)
 
 abbrev bytes : List ℕ → Call
-bytes input = host input (replicate 114 0)
+bytes input = host input (replicate 144 0)
 
 abbrev command : List ℕ → Call
 command payload = bytes (subnegotiation 20 payload)
@@ -88,17 +92,17 @@ harmless =
     (1 ∷ 0 ∷ []) ∷ (1 ∷ 253 ∷ []) ∷ (1 ∷ 255 ∷ []) ∷ (2 ∷ 0 ∷ []) ∷ (2 ∷ 31 ∷ []) ∷ (3 ∷ 0 ∷ []) ∷ (3 ∷ 255 ∷ [])
     ∷ (4 ∷ 253 ∷ 20 ∷ []) ∷ (4 ∷ 255 ∷ 255 ∷ []) ∷ (6 ∷ 255 ∷ []) ∷ (7 ∷ 255 ∷ []) ∷ (5 ∷ 0 ∷ 0 ∷ []) ∷ (5 ∷ 3 ∷ 1 ∷ []) ∷ (5 ∷ 7 ∷ 0 ∷ [])
     ∷ (8 ∷ []) ∷ (9 ∷ []) ∷ (10 ∷ []) ∷ (11 ∷ []) ∷ (12 ∷ []) ∷ (13 ∷ []) ∷ (14 ∷ []) ∷ (15 ∷ []) ∷ (16 ∷ []) ∷ (17 ∷ []) ∷ (19 ∷ [])
-    ∷ (21 ∷ []) ∷ (23 ∷ []) ∷ (26 ∷ []) ∷ (30 ∷ []) ∷ (31 ∷ []) ∷ (32 ∷ []) ∷ (33 ∷ []) ∷ (34 ∷ []) ∷ (35 ∷ [])
+    ∷ (21 ∷ []) ∷ (23 ∷ []) ∷ (26 ∷ []) ∷ (27 ∷ []) ∷ (30 ∷ []) ∷ (31 ∷ []) ∷ (32 ∷ []) ∷ (33 ∷ []) ∷ (34 ∷ []) ∷ (35 ∷ [])
     ∷ (37 ∷ 0 ∷ 32 ∷ []) ∷ (37 ∷ 1 ∷ 66 ∷ []) ∷ (37 ∷ 253 ∷ 65 ∷ []) ∷ (38 ∷ 254 ∷ []) ∷ (38 ∷ 251 ∷ []) ∷ (38 ∷ 252 ∷ [])
     ∷ (41 ∷ 5 ∷ 3 ∷ []) ∷ (41 ∷ 253 ∷ 253 ∷ [])
     ∷ []
 
 -- Of the seven, those that are not executed: a 20 and two 36 that draw ERROR 9, 12 and 11; a 20 in a call refused for its room of
--- 113; a 20 left untaken, the 17 before it having been answered; a 20 after DONT 20, and a 22 after DO 20, which is not agreed.
+-- 143; a 20 left untaken, the 17 before it having been answered; a 20 after DONT 20, and a 22 after DO 20, which is not agreed.
 unfoldable pub attempts : List Call
 attempts =
     command (20 ∷ 0 ∷ []) ∷ command (36 ∷ 32 ∷ 0 ∷ 0 ∷ 1 ∷ []) ∷ command (36 ∷ 8 ∷ 0 ∷ 1 ∷ 0 ∷ [])
-    ∷ host (subnegotiation 20 (20 ∷ [])) (replicate 113 0)
+    ∷ host (subnegotiation 20 (20 ∷ [])) (replicate 143 0)
     ∷ bytes (subnegotiation 20 (17 ∷ []) ++ subnegotiation 20 (20 ∷ []))
     ∷ bytes (0xff ∷ 0xfe ∷ 20 ∷ []) ∷ command (20 ∷ []) ∷ bytes (0xff ∷ 0xfd ∷ 20 ∷ []) ∷ command (22 ∷ []) ∷ []
 
@@ -108,7 +112,7 @@ busy =
     press 56 ∷ press 127 ∷ press 9 ∷ press 13 ∷ bytes (characters "75") ∷ (map (λ payload. command payload) harmless ++ attempts)
 
 abbrev begin : State
-begin = state (at 3 0) (screen four attrs)
+begin = state (at 3 0) (screen four attrs marks)
 
 pub record Met : Type 0 where
   pub premised : Premised (at 3 0) attrs four five
@@ -162,16 +166,16 @@ reaching =
     ∷ []
 
 abbrev first : Reach → State
-first r = state (at (r .x) (r .y)) (screen four attrs)
+first r = state (at (r .x) (r .y)) (screen four attrs marks)
 
 abbrev second : Reach → State
-second r = state (at (r .x) (r .y)) (screen five attrs)
+second r = state (at (r .x) (r .y)) (screen five attrs marks)
 
 -- All premises but one hold, this command and no other of the seven is executed, and the conclusion fails.
 pub record Needed (r : Reach) : Type 0 where
   pub premised : Premised (at (r .x) (r .y)) attrs four five
   pub only : past (executedOf (first r) (r .calls)) ≡ r .code ∷ []
-  pub broken : Untold (at (r .x) (r .y)) attrs four five (r .calls) → ⊥
+  pub broken : Untold (at (r .x) (r .y)) attrs marks four five (r .calls) → ⊥
 
 same-refl : (xs : List ℕ) → same xs xs ≡ true
 unfolding same
@@ -192,7 +196,7 @@ guarded : protectedAt attrs 7 ≡ true
 unfolding protectedAt
 guarded = refl
 
-passes : (r : Reach) → Untold (at (r .x) (r .y)) attrs four five (r .calls) → untold r ≡ true
+passes : (r : Reach) → Untold (at (r .x) (r .y)) attrs marks four five (r .calls) → untold r ≡ true
 unfolding untold
 passes r i =
     both _ _ (ap (λ a. same (spoken a) (spoken (answersOf (second r) (r .calls)))) (i .answers) ∙ same-refl _)

@@ -14,7 +14,7 @@ use Rattle.rules.specs.declared.Refusal.{Refusal}
 use Rattle.rules.specs.declared.Session.{Session}
 use Rattle.rules.specs.Session.{State, printable, allPrintable, replyRoom, screen, state, viewOf}
 use Rattle.rules.specs.Refusal.{isTaken, sizeTests, stateTests}
-use Rattle.rules.specs.Effect.{Effect, Executed, changedAll}
+use Rattle.rules.specs.Effect.{Effect, Executed, changedAll, marking}
 use Rattle.rules.specs.Command.{reachesPast}
 use Rattle.rules.specs.Cursor.{cursorGuarded}
 use Rattle.rules.specs.Pad.{takesKey}
@@ -70,14 +70,15 @@ ran s free bs = running s (take (takenOf s free bs) bs)
 
 -- two runs, begun with the attribute bytes attrs and the characters c₀ and d₀
 module _ (attrs c₀ d₀ : List ℕ) where
-  -- where they stand: one session with protection in effect, those attribute bytes, and characters that are twins
+  -- where they stand: one session with protection in effect, those attribute bytes, the same marks, and characters that are twins
   data TwinStates : State → State → Type 0 where
-    twins : (s : Session) (now c d : List ℕ) → now ≡ attrs → s .frame .suppressed ≡ false → Twins attrs c₀ d₀ c d
-        → TwinStates (state s (screen c now)) (state s (screen d now))
+    twins : (s : Session) (now marks c d : List ℕ) → now ≡ attrs → s .frame .suppressed ≡ false → Twins attrs c₀ d₀ c d
+        → TwinStates (state s (screen c now marks)) (state s (screen d now marks))
 
   parts : {s t : State} → TwinStates s t
-      → (s .session ≡ t .session) × (s .screen .attrs ≡ attrs) × (t .screen .attrs ≡ attrs) × Twins attrs c₀ d₀ (s .screen .chars) (t .screen .chars)
-  parts (twins s now c d a p w) = (refl, a, a, w)
+      → (s .session ≡ t .session) × (s .screen .attrs ≡ attrs) × (t .screen .attrs ≡ attrs) × (s .screen .marks ≡ t .screen .marks)
+      × Twins attrs c₀ d₀ (s .screen .chars) (t .screen .chars)
+  parts (twins s now marks c d a p w) = (refl, a, a, refl, w)
 
   -- what n bytes have done in the one and m in the other
   record TwinRuns (n m : ℕ) (r q : Ran) : Type 0 where
@@ -93,12 +94,12 @@ module _ (attrs c₀ d₀ : List ℕ) where
 
   applied-twins : {s t : State} {r : Reader} {p : Pad} {e : Effect} → TwinStates s t → SafeEffect (s .screen .attrs) e
       → TwinRuns 1 1 (applied s r p e) (applied t r p e)
-  applied-twins {e = e} (twins s now c d a p w) f =
+  applied-twins {e = e} (twins s now marks c d a p w) f =
       let safe : SafeEffect attrs e = rw a at f in
       record {
         taken = refl;
-        replies = same-reply (w .alike) (e .reply) (safe .reply);
-        states = twins _ _ (changedAll c now (e .changes)) (changedAll d now (e .changes)) (safe .attributes) (safe .protecting)
+        replies = rw a (same-reply (w .alike) marks (e .reply) (safe .reply));
+        states = twins _ _ (marking marks (e .marks)) (changedAll c now (e .changes)) (changedAll d now (e .changes)) (safe .attributes) (safe .protecting)
             (rw a (still-twins (e .changes) (safe .changes) w));
       }
 
@@ -106,12 +107,12 @@ module _ (attrs c₀ d₀ : List ℕ) where
       → TwinRuns (takenOf s free bs) (takenOf t free bs) (ran s free bs) (ran t free bs)
   unfolding takenOf running hostByte
   taking-twins [] free start x = record { taken = refl; replies = refl; states = start }
-  taking-twins (b ∷ bs) free (twins s now c d a p w) x =
-      let start = twins s now c d a p w in
-      let said = (hostByte (state s (screen c now)) b) .replies in
+  taking-twins (b ∷ bs) free (twins s now marks c d a p w) x =
+      let start = twins s now marks c d a p w in
+      let said = (hostByte (state s (screen c now marks)) b) .replies in
       true-or-false (leb (replyRoom (s .frame)) free)
       (λ r.
-      let none = none-append ((hostByte (state s (screen c now)) b) .executed) _ (rw r at x) in
+      let none = none-append ((hostByte (state s (screen c now marks)) b) .executed) _ (rw r at x) in
       let one = applied-twins start (safe-happening _ p (s .reader) (s .pad) _ (none .0)) in
       let rest = taking-twins bs (free - length said) (one .states) (none .1) in
       rw (r, ← one .replies) (record { taken = ap suc (rest .taken); replies = ap (λ l. said ++ l) (rest .replies); states = rest .states }))
@@ -139,17 +140,17 @@ module _ (attrs c₀ d₀ : List ℕ) where
     -- a call is refused in both runs or in neither
     same-tests : {s t : State} (reply : List ℕ) → TwinStates s t
         → (sizeTests (t .session .frame) (t .screen) ≡ sizeTests (s .session .frame) (s .screen))
-        × (stateTests (t .session) (t .screen .chars) reply ≡ stateTests (s .session) (s .screen .chars) reply)
+        × (stateTests (t .session) (t .screen) reply ≡ stateTests (s .session) (s .screen) reply)
     unfolding sizeTests stateTests
-    same-tests reply (twins s now c d a p w) = (rw (w .alike .long), rw (clean-twins c d w))
+    same-tests reply (twins s now marks c d a p w) = (rw (w .alike .long), rw (clean-twins c d w))
 
     called-twins : (k : Call) {s t : State} → TwinStates s t → noneReaches (executedBy s k) ≡ true → TwinOutcomes (called s k) (called t k)
     unfolding called executedBy hostBytes oneKey
     called-twins (host input reply) start x =
         let e = same-tests reply start in
         rw (e .0, e .1) (unless-twins _ reply start (λ r. taking-twins input (length reply) start (rw r at x)))
-    called-twins (key k reply) (twins s now c d a p w) x =
-        let start = twins s now c d a p w in
+    called-twins (key k reply) (twins s now marks c d a p w) x =
+        let start = twins s now marks c d a p w in
         let e = same-tests reply start in
         rw (e .0, e .1) (unless-twins _ reply start (λ r. applied-twins start (safe-press _ reply k p r)))
 
@@ -166,15 +167,16 @@ module _ (attrs c₀ d₀ : List ℕ) where
         (ap₂ _∷_ (one .answers) (rest .0), rest .1)
 
 pub noninterference : Noninterference
-noninterference s attrs c d calls protecting clean-first clean-second alike none =
-    let run = calls-twins attrs c d clean-first clean-second calls (twins s attrs c d refl protecting (search)) none in
+noninterference s attrs marks c d calls protecting clean-first clean-second alike none =
+    let run = calls-twins attrs c d clean-first clean-second calls (twins s attrs marks c d refl protecting (search)) none in
     let end = parts attrs c d (run .1) in
     record {
       answers = run .0;
       sessions = end .0;
       attributes-first = end .1;
       attributes-second = end .2;
-      alike = end .3 .alike;
-      kept-first = end .3 .first;
-      kept-second = end .3 .second;
+      marks = end .3;
+      alike = end .4 .alike;
+      kept-first = end .4 .first;
+      kept-second = end .4 .second;
     }

@@ -121,8 +121,8 @@ stage-back Code = refl
 stage-back (Parameter code) = refl
 stage-back (Value code parameter) = refl
 
-abbrev briefOf : List ℕ → Pad → List ℕ → List ℕ → List ℕ → List ℕ → Brief
-briefOf ns pad held chars attrs replies =
+abbrev briefOf : List ℕ → Pad → List ℕ → List ℕ → List ℕ → List ℕ → List ℕ → Brief
+briefOf ns pad held chars attrs marks replies =
     brief (getD ns 0 0) (getD ns 1 0)
     (state
     (session
@@ -147,7 +147,7 @@ briefOf ns pad held chars attrs replies =
       cr = eqb (getD ns 14 0) 1;
     })
     pad)
-    (screen chars attrs))
+    (screen chars attrs marks))
     replies
 
 -- the PAD from its lists, its line's length and its message's stage
@@ -163,8 +163,8 @@ pad-back : (p : Pad)
     → padOf (p .values .held) (p .line .bytes) (p .line .len) (p .message .copy .held) (stageNumbers (p .message .stage)) ≡ p
 pad-back p = rw (stage-back (p .message .stage))
 
-brief-back : (a : Brief) → let s = a .left .session in
-    briefOf (numbers a) (s .pad) (s .reader .held .bytes) (a .left .screen .chars) (a .left .screen .attrs) (a .replies) ≡ a
+brief-back : (a : Brief) → let s = a .left .session in let b = a .left .screen in
+    briefOf (numbers a) (s .pad) (s .reader .held .bytes) (b .chars) (b .attrs) (b .marks) (a .replies) ≡ a
 unfolding numbers
 brief-back a =
     let s = a .left .session in
@@ -202,12 +202,14 @@ beside-equal a b pad e =
     let e2 = and-right (same (a .left .session .reader .held .bytes) (b .left .session .reader .held .bytes)) _ e1 in
     let e3 = and-right (same (a .left .screen .chars) (b .left .screen .chars)) _ e2 in
     let e4 = and-right (same (a .left .screen .attrs) (b .left .screen .attrs)) _ e3 in
+    let e5 = and-right (same (a .left .screen .marks) (b .left .screen .marks)) _ e4 in
     let p = same-equal (numbers a) (numbers b) (and-left _ _ e) in
     let p1 = same-equal _ _ (and-left _ _ e1) in
     let p2 = same-equal _ _ (and-left _ _ e2) in
     let p3 = same-equal _ _ (and-left _ _ e3) in
-    let p4 = same-equal (a .replies) (b .replies) e4 in
-    sym (brief-back a) ∙ rw (p, pad, p1, p2, p3, p4) (brief-back b)
+    let p4 = same-equal _ _ (and-left _ _ e4) in
+    let p5 = same-equal (a .replies) (b .replies) e5 in
+    sym (brief-back a) ∙ rw (p, pad, p1, p2, p3, p4, p5) (brief-back b)
 
 numbers-equal : (a b : Brief) → sameBeside a b ≡ true → numbers a ≡ numbers b
 unfolding sameBeside

@@ -8,7 +8,7 @@ use lib.ListN.{length, replicate}
 use Rattle.words.proofs.Laws.{either, and-left, and-right}
 use Rattle.rules.specs.declared.Refusal.{Refusal}
 use Rattle.rules.specs.declared.Refusal.the-variants.{Taken}
-use Rattle.rules.specs.Session.{State, replyRoom, allPrintable, sessionOk}
+use Rattle.rules.specs.Session.{State, replyRoom, allPrintable, allMarks, sessionOk}
 use Rattle.rules.specs.Refusal.{Test, isTaken, verdict, sizeTests, stateTests}
 use Rattle.rules.specs.Operation.{Ran, running, takenOf, hostRefusal, hostBytes, pressTests, keyRan, oneKey}
 use Rattle.rules.specs.Call.{host, key, called}
@@ -34,7 +34,7 @@ all-passed (t ∷ ts) e = rw (and-left (t .passes) _ e) (all-passed ts (and-righ
 
 unfoldable pub ready : State → List ℕ → Bool
 ready s reply =
-    passing (sizeTests (s .session .frame) (s .screen)) && passing (stateTests (s .session) (s .screen .chars) reply)
+    passing (sizeTests (s .session .frame) (s .screen)) && passing (stateTests (s .session) (s .screen) reply)
 
 module _ (s : State) (room : ℕ) (e : ready s (replicate room lent) ≡ true) where
   abbrev buffer : List ℕ
@@ -44,7 +44,7 @@ module _ (s : State) (room : ℕ) (e : ready s (replicate room lent) ≡ true) w
   sizes = sizeTests (s .session .frame) (s .screen)
 
   abbrev states : List Test
-  states = stateTests (s .session) (s .screen .chars) buffer
+  states = stateTests (s .session) (s .screen) buffer
 
   sizes-passed : passing sizes ≡ true
   unfolding ready
@@ -66,7 +66,10 @@ module _ (s : State) (room : ℕ) (e : ready s (replicate room lent) ≡ true) w
 
   room-there : leb (replyRoom (s .session .frame)) (length buffer) ≡ true
   unfolding passing stateTests
-  room-there = and-left _ _ (and-right (sessionOk (s .session)) _ (and-right (allPrintable (s .screen .chars)) _ states-passed))
+  room-there =
+      and-left _ _
+      (and-right (allMarks (s .screen .marks)) _
+      (and-right (sessionOk (s .session)) _ (and-right (allPrintable (s .screen .chars)) _ states-passed)))
 
   -- a host byte is taken
   pub byte-full : (b : ℕ) → look (called s (host (b ∷ []) buffer)) ≡ inFull room (briefly Taken s 1 (running s (b ∷ [])))

@@ -1,8 +1,9 @@
 -- How many bytes a reply and its parts take.
 use mathlib.Core.Path.{_≡_}
-use mathlib.Core.Bool.{false, not}
-use mathlib.Core.List.{List, [], _∷_}
+use mathlib.Core.Bool.{Bool, true, false, not}
+use mathlib.Core.List.{List, [], _∷_, _++_}
 use Prim.Native.Nat.{ℕ, zero, suc, _+_, _-_, _*_, _≤_, _<_}
+use native.Mathlib.Nat.{mul-suc}
 use native.Mathlib.Numerals.{add-one}
 use native.Mathlib.Omega.{arith}
 use borrow.Author.Tests.{ne-eqb}
@@ -14,34 +15,36 @@ use Rattle.pad.specs.Response.{responseOf}
 use Rattle.pad.proofs.ResponseLaws.{response-most}
 use Rattle.screen.specs.Words.{firstOf}
 use Rattle.screen.specs.Attributes.{protectedAt}
+use Rattle.words.specs.Words.{if_then_else_}
+use Rattle.screen.specs.Cells.{placeOf}
 use Rattle.screen.specs.Fields.{startsAt, opensAt, fieldEnd}
-use Rattle.edit.specs.Edits.{textOf}
+use Rattle.edit.specs.Edits.{someMarked, textOf}
 use Rattle.words.proofs.Laws.{either, true-or-false}
 use Rattle.screen.proofs.FieldLaws.{end-gt}
-use Rattle.rules.specs.Session.{replyRoom, freshFrame}
-use Rattle.rules.specs.Effect.{Part, bytes, text, spelled, spelledAll}
-use Rattle.rules.specs.Subcommand.{fieldTexts, withoutFirst}
+use Rattle.rules.specs.Session.{Screen, replyRoom, freshFrame}
+use Rattle.rules.specs.Effect.{Part, bytes, text, whereMarked, message, spelled, spelledAll}
+use Rattle.rules.specs.Subcommand.{prefaceBytes, fieldTexts, withoutFirst, modifiedTexts}
 -- the sentences of document 01 are checked first, so that a wrong rule is refused there
 use Rattle.rules.proofs.Causes.{nothing-else}
 
 -- a reply that fits into the reply room of a screen m cells wide and n lines high
 abbrev pub InRoom : ℕ → ℕ → List Part → Type 0
-InRoom m n ps = (chars : List ℕ) → length chars ≡ n * m → length (spelledAll chars ps) ≤ replyRoom (freshFrame m n)
+InRoom m n ps = (b : Screen) → length (b .chars) ≡ n * m → length (spelledAll b ps) ≤ replyRoom (freshFrame m n)
 
 -- what may follow a preface, on a screen of so many cells
 abbrev pub Follows : ℕ → List Part → Type 0
-Follows cells ps = (chars : List ℕ) → length chars ≡ cells → length (spelledAll chars ps) + 6 ≤ 7 * cells
+Follows cells ps = (b : Screen) → length (b .chars) ≡ cells → length (spelledAll b ps) + 8 ≤ 9 * cells
 
 module _ (m n : ℕ) where
   -- no reply
   pub fits-nothing : InRoom m n []
   unfolding spelledAll
-  fits-nothing chars e = omega arith
+  fits-nothing b e = omega arith
 
   -- bytes, where there is room for so many
-  pub fits-within : (bs : List ℕ) (most : ℕ) → length bs ≤ most → most ≤ 7 * (n * m) + 2 → InRoom m n (bytes bs ∷ [])
+  pub fits-within : (bs : List ℕ) (most : ℕ) → length bs ≤ most → most ≤ 9 * (n * m) → InRoom m n (bytes bs ∷ [])
   unfolding spelledAll spelled
-  fits-within bs most l h chars e = rw length-append (omega arith)
+  fits-within bs most l h b e = rw length-append (omega arith)
 
   -- a short reply
   pub fits-bytes : 0 < n * m → (bs : List ℕ) → length bs ≤ 9 → InRoom m n (bytes bs ∷ [])
@@ -50,7 +53,7 @@ module _ (m n : ℕ) where
   -- a transmission: its preface takes eight bytes
   pub fits-prefaced : (bs : List ℕ) (ps : List Part) → length bs ≡ 8 → Follows (n * m) ps → InRoom m n (bytes bs ∷ ps)
   unfolding spelledAll spelled
-  fits-prefaced bs ps l f chars e = rw length-append (omega (arith, f chars e))
+  fits-prefaced bs ps l f b e = rw length-append (omega (arith, f b e))
 
 -- ---- messages
 
@@ -91,42 +94,82 @@ text-most from end chars = simp (length-take, length-drop) (omega arith)
 -- one text
 pub one-text : {cells : ℕ} → 0 < cells → (from end : ℕ) → Follows cells (text from end ∷ [])
 unfolding spelledAll spelled
-one-text h from end chars e = rw length-append (omega (arith, text-most from end chars))
+one-text h from end b e = rw length-append (omega (arith, text-most from end (b .chars)))
 
 -- none
 pub no-text : {cells : ℕ} → 0 < cells → Follows cells []
 unfolding spelledAll
-no-text h chars e = omega arith
+no-text h b e = omega arith
 
--- ---- 21: all unprotected fields
+-- ---- 21: all unprotected fields; 27: those with a marked cell
 
-module _ (attrs chars : List ℕ) where
-  -- Of the n cells from i on: six bytes for a separator at each, and one for each cell from the first field's start on.
-  fields-most : (i n : ℕ) → i + n ≡ length attrs
-      → length (spelledAll chars (fieldTexts attrs i n)) + firstOf (startsAt attrs) (length attrs) i n ≤ 6 * n + length attrs
-  unfolding fieldTexts spelledAll spelled firstOf opensAt fieldEnd subnegotiation doubled
-  fields-most i zero h = omega arith
-  fields-most i (suc n) h =
-      let rest = fields-most (suc i) n (omega arith) in
+spelled-append : (b : Screen) (ps qs : List Part)
+    → length (spelledAll b (ps ++ qs)) ≡ length (spelledAll b ps) + length (spelledAll b qs)
+unfolding spelledAll
+spelled-append b [] qs = omega arith
+spelled-append b (p ∷ ps) qs = simp length-append (omega (arith, spelled-append b ps qs))
+
+-- What is sent of the n cells from i on: so many bytes before the text of each field, and one for each cell from the first start on.
+module _ (attrs : List ℕ) (b : Screen) (before : ℕ) where
+  abbrev Most : ℕ → ℕ → List Part → Type 0
+  Most i n ps = length (spelledAll b ps) + firstOf (startsAt attrs) (length attrs) i n ≤ before * n + length attrs
+
+  -- one cell more
+  most-next : (i n : ℕ) (qs ps : List Part) → i + suc n ≡ length attrs → Most (suc i) n ps
+      → length (spelledAll b qs) ≤ before + (fieldEnd attrs i - i) → Most i (suc n) (if opensAt attrs i then qs ++ ps else ps)
+  unfolding firstOf opensAt fieldEnd
+  most-next i n qs ps h rest one =
       let k : length attrs - suc i ≡ n = omega arith in
       let end : fieldEnd attrs i ≡ firstOf (startsAt attrs) (length attrs) (suc i) n = rw (add-one, k) in
       let past = end-gt attrs i (omega arith) in
+      let more : before * suc n ≡ before * n + before = mul-suc before n in
       true-or-false (startsAt attrs i)
       (λ s. rw s
-      (either (λ ps. length (spelledAll chars ps) + i ≤ 6 * suc n + length attrs) (not (protectedAt attrs i))
-      (λ o. simp length-append (omega (arith, text-most i (fieldEnd attrs i) chars .0))) (λ o. omega arith)))
+      (either (λ ts. length (spelledAll b ts) + i ≤ before * suc n + length attrs) (not (protectedAt attrs i))
+      (λ o. omega (arith, spelled-append b qs ps)) (λ o. omega arith)))
       (λ s. rw s (omega arith))
+
+-- what is sent of a field, if it is marked
+marked-most : (marked : Bool) (bs cs : List ℕ) (most : ℕ) → length bs + length cs ≤ most
+    → length ((if marked then bs ++ cs else []) ++ []) ≤ most
+marked-most true bs cs most h = simp length-append (omega arith)
+marked-most false bs cs most h = omega arith
+
+module _ (attrs : List ℕ) (b : Screen) where
+  -- 21: a separator of six bytes
+  fields-most : (i n : ℕ) → i + n ≡ length attrs → Most attrs b 6 i n (fieldTexts attrs i n)
+  unfolding fieldTexts spelledAll spelled firstOf subnegotiation doubled
+  fields-most i zero h = omega arith
+  fields-most i (suc n) h =
+      most-next attrs b 6 i n (message (39 ∷ []) ∷ text i (fieldEnd attrs i) ∷ []) _ h (fields-most (suc i) n (omega arith))
+      (simp length-append (omega (arith, text-most i (fieldEnd attrs i) (b .chars) .0)))
+
+  -- 27: a preface of eight bytes
+  modified-most : (width i n : ℕ) → ((j : ℕ) → j < length attrs → length (prefaceBytes (placeOf width j)) ≡ 8) → i + n ≡ length attrs
+      → Most attrs b 8 i n (modifiedTexts width attrs i n)
+  unfolding modifiedTexts spelledAll spelled firstOf
+  modified-most width i zero long h = omega arith
+  modified-most width i (suc n) long h =
+      most-next attrs b 8 i n (whereMarked (prefaceBytes (placeOf width i)) i (fieldEnd attrs i) ∷ []) _ h
+      (modified-most width (suc i) n long (omega arith))
+      (marked-most (someMarked (b .marks) i (fieldEnd attrs i)) (prefaceBytes (placeOf width i)) (textOf i (fieldEnd attrs i) (b .chars))
+      (8 + (fieldEnd attrs i - i)) (omega (arith, long i (omega arith), text-most i (fieldEnd attrs i) (b .chars) .0)))
 
   -- the first separator is not sent
   fields-less : (i n : ℕ)
-      → length (spelledAll chars (withoutFirst (fieldTexts attrs i n))) ≤ length (spelledAll chars (fieldTexts attrs i n)) - 6
+      → length (spelledAll b (withoutFirst (fieldTexts attrs i n))) ≤ length (spelledAll b (fieldTexts attrs i n)) - 6
   unfolding fieldTexts spelledAll spelled subnegotiation doubled
   fields-less i zero = omega arith
   fields-less i (suc n) =
-      either (λ ps. length (spelledAll chars (withoutFirst ps)) ≤ length (spelledAll chars ps) - 6) (opensAt attrs i)
+      either (λ ps. length (spelledAll b (withoutFirst ps)) ≤ length (spelledAll b ps) - 6) (opensAt attrs i)
       (λ o. omega arith) (λ o. fields-less (suc i) n)
 
 -- all unprotected fields
 pub fields-text : (attrs : List ℕ) → 0 < length attrs → Follows (length attrs) (withoutFirst (fieldTexts attrs 0 (length attrs)))
-fields-text attrs h chars e =
-    omega (arith, fields-less attrs chars 0 (length attrs), fields-most attrs chars 0 (length attrs) (omega arith))
+fields-text attrs h b e =
+    omega (arith, fields-less attrs b 0 (length attrs), fields-most attrs b 0 (length attrs) (omega arith))
+
+-- those with a marked cell
+pub modified-text : (m n : ℕ) (attrs : List ℕ) (width : ℕ) → length attrs ≡ n * m
+    → ((j : ℕ) → j < length attrs → length (prefaceBytes (placeOf width j)) ≡ 8) → InRoom m n (modifiedTexts width attrs 0 (length attrs))
+modified-text m n attrs width e long b l = omega (arith, modified-most attrs b width 0 (length attrs) long (omega arith))

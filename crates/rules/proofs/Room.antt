@@ -29,16 +29,16 @@ module _ {m n : ℕ} {s : State} (k : Sound m n s) where
   -- of a host byte
   pub room-byte : (b : ℕ) → length ((hostByte s b) .replies) ≤ replyRoom (s .session .frame)
   unfolding hostByte
-  room-byte b = rw room-is (keeps-happening (k .view) (s .session .reader) (s .session .pad) _ .reply (s .screen .chars) (k .chars .long))
+  room-byte b = rw room-is (keeps-happening (k .view) (s .session .reader) (s .session .pad) _ .reply (s .screen) (k .chars .long))
 
   -- of a key
   pub room-key : (code : ℕ) → length ((keyRan s code) .replies) ≤ replyRoom (s .session .frame)
-  room-key code = omega (arith, room-is, keeps-key s (k .view) (k .pad) code .reply (s .screen .chars) (k .chars .long))
+  room-key code = omega (arith, room-is, keeps-key s (k .view) (k .pad) code .reply (s .screen) (k .chars .long))
 
--- All of it is used: two cells, each an unprotected field, and subcommand 21.
+-- All of it is used: two cells, each an unprotected field and marked, and subcommand 27.
 pub room-reached :
     let s = starting 2 1 false (32 ∷ 32 ∷ []) (0 ∷ 16 ∷ []) 0 0 in
-    length ((running s (255 ∷ 250 ∷ 20 ∷ 21 ∷ 255 ∷ 240 ∷ [])) .replies) ≡ replyRoom (s .session .frame)
+    length ((running s (255 ∷ 250 ∷ 20 ∷ 27 ∷ 255 ∷ 240 ∷ [])) .replies) ≡ replyRoom (s .session .frame)
 unfolding computing
 room-reached = refl
 

@@ -9,12 +9,14 @@ use borrow.Author.Tests.{ltb-true, ltb-false, eqb-true, eqb-false, not-true}
 use lib.Dec.{ltb, eqb}
 use lib.ListN.{length, getD, set, length-set, length-take, length-drop}
 use lib.Seq.{getD-set-same, getD-set-other, getD-take, getD-drop, ext-getD}
+use Rattle.words.specs.Words.{if_then_else_}
 use Rattle.screen.specs.Words.{inRange}
 use Rattle.screen.specs.Attributes.{protectedAt}
-use Rattle.edit.specs.Edits.{shifted, lies, onPart, erased, textOf}
+use Rattle.edit.specs.Edits.{shifted, lies, onPart, erased, someMarked, textOf}
 use Rattle.words.proofs.Laws.{true-or-false, not-both, and-right, getD-within}
 use Rattle.edit.proofs.EditLaws.{shifted-length, erased-length, erased-cell, onPart-none, onPart-length, onPart-before, onPart-inside, onPart-after}
-use Rattle.rules.specs.Effect.{Change, put, erase, shift, changed, changedAll, Part, bytes, text, spelled, spelledAll}
+use Rattle.rules.specs.Session.{screen}
+use Rattle.rules.specs.Effect.{Change, put, erase, shift, changed, changedAll, Part, bytes, text, whereMarked, spelled, spelledAll}
 use Rattle.rules.specs.Noninterference.{Alike, Kept}
 use Rattle.rules.proofs.All.{All}
 -- the sentences of document 01 are checked first, so that a wrong rule is refused there
@@ -32,6 +34,7 @@ SafeChange attrs (shift s from end by) = Open attrs from end
 abbrev pub SafePart : List ℕ → Part → Type 0
 SafePart attrs (bytes bs) = Unit {0}
 SafePart attrs (text from end) = Open attrs from end
+SafePart attrs (whereMarked bs from end) = Open attrs from end
 
 -- two lists of characters that are alike, each with the protected characters of the one it comes from
 pub record Twins (attrs c₀ d₀ c d : List ℕ) : Type 0 where
@@ -50,11 +53,15 @@ module _ {attrs c d : List ℕ} (a : Alike attrs c d) where
       let l : i < end - from = omega arith in
       simp (getD-take, getD-drop) (a .unprotected (from + i) (omega arith) (o (from + i) (omega arith) (omega arith))))
 
-  pub same-reply : (ps : List Part) → All (SafePart attrs) ps → spelledAll c ps ≡ spelledAll d ps
+  -- with the same marks
+  pub same-reply : (marks : List ℕ) (ps : List Part) → All (SafePart attrs) ps
+      → spelledAll (screen c attrs marks) ps ≡ spelledAll (screen d attrs marks) ps
   unfolding spelledAll spelled
-  same-reply [] s = refl
-  same-reply (bytes bs ∷ ps) s = ap (λ rest. bs ++ rest) (same-reply ps (s .1))
-  same-reply (text from end ∷ ps) s = ap₂ _++_ (same-text from end (s .0)) (same-reply ps (s .1))
+  same-reply marks [] s = refl
+  same-reply marks (bytes bs ∷ ps) s = ap (λ rest. bs ++ rest) (same-reply marks ps (s .1))
+  same-reply marks (text from end ∷ ps) s = ap₂ _++_ (same-text from end (s .0)) (same-reply marks ps (s .1))
+  same-reply marks (whereMarked bs from end ∷ ps) s =
+      ap₂ _++_ (ap (λ t. if someMarked marks from end then bs ++ t else []) (same-text from end (s .0))) (same-reply marks ps (s .1))
 
 -- ---- what is changed
 

@@ -13,6 +13,7 @@ use Rattle.telnet.specs.declared.Event.{Event}
 use Rattle.telnet.specs.declared.Event.the-variants.{Nothing, Data, Negotiation, Begin, Sub, End, EndBare, Lost}
 use Rattle.telnet.specs.Reader.{verbCode}
 use Rattle.edit.specs.declared.range.Shift.{Shift}
+use Rattle.edit.specs.declared.range.Shift.the-variants.{Deletion}
 use Rattle.words.specs.Words.{if_then_else_}
 use Rattle.screen.specs.Attributes.{protectedAt}
 use Rattle.screen.specs.Fields.{fieldEnd, spanEnd}
@@ -28,14 +29,14 @@ use Rattle.rules.specs.declared.Fault.{Fault}
 use Rattle.rules.specs.declared.Fault.the-variants.{NoFault, NotAgreed, UnknownCode, OffScreen, TooManyParameters, TooFewParameters, BadValue, BadMap}
 use Rattle.rules.specs.declared.Key.{Key}
 use Rattle.rules.specs.declared.Key.the-variants.{Typed, Back, Tab, Send, Delete, Function, Meaningless}
-use Rattle.rules.specs.Session.{View, cursorCell}
+use Rattle.rules.specs.Session.{View, cursorCell, screenEnd}
 use Rattle.rules.specs.Number.{detOption}
 use Rattle.rules.specs.Command.{Row, rows, Listed, listed, unlisted, reaches, reachesPast}
 use Rattle.rules.specs.Effect.{Effect, Part}
 use Rattle.rules.specs.Cursor.{cursorGuarded}
 use Rattle.rules.specs.Telnet.{turned, switchedOn, switchedOff, negotiated, hostCharacter, hostCharacters, hostData, hostText}
 use Rattle.rules.specs.Pad.{response, echoedAt, typedTo, passes}
-use Rattle.rules.specs.Subcommand.{fieldTexts, withoutFirst, transmitted, erasure, cursorLineStart, linesGuarded, lineShifting, suppressing, obeyed, judged, looked, subcommand}
+use Rattle.rules.specs.Subcommand.{fieldTexts, withoutFirst, transmitted, modifiedTexts, transmittedModified, erasure, shifting, cursorLineStart, linesGuarded, lineShifting, suppressing, obeyed, judged, looked, subcommand}
 use Rattle.rules.specs.Key.{needsOf, given, pressed}
 use Rattle.rules.specs.Operation.{happening}
 use Rattle.rules.specs.Noninterference.{noneReaches}
@@ -101,6 +102,12 @@ module _ (attrs : List ℕ) where
   safe-texts i zero = tt
   safe-texts i (suc n) = let rest = safe-texts (suc i) n in search (either (All (SafePart attrs)), open-rest, opens-unprotected)
 
+  safe-modified-texts : (width i n : ℕ) → All (SafePart attrs) (modifiedTexts width attrs i n)
+  unfolding modifiedTexts
+  safe-modified-texts width i zero = tt
+  safe-modified-texts width i (suc n) =
+      let rest = safe-modified-texts width (suc i) n in search (either (All (SafePart attrs)), open-rest, opens-unprotected)
+
   without-first : (ps : List Part) → All (SafePart attrs) ps → All (SafePart attrs) (withoutFirst ps)
   without-first [] h = tt
   without-first (p ∷ ps) h = h .1
@@ -110,9 +117,17 @@ module _ (v : View) (protecting : v .frame .suppressed ≡ false) where
       → All P (if cursorGuarded v then [] else x ∷ [])
   unless-guarded P x f = either (All P) (cursorGuarded v) (λ g. tt) (λ g. (f (open-cursor v protecting g), tt))
 
-  unless-lines-guarded : (s : Shift) → All (SafeChange (v .attrs)) ((lineShifting v s) .changes)
-  unless-lines-guarded s = either (All (SafeChange (v .attrs))) (linesGuarded v) (λ g. tt)
-      (λ g. (λ i a b. rw protecting at (none-passes _ _ (cursorLineStart v) _ i g (omega arith) a b), tt))
+  -- shifts, by what they ask
+  safe-line-shift : (s : Shift) → SafeEffect (v .attrs) (lineShifting v s)
+  safe-line-shift s =
+      either (SafeEffect (v .attrs)) (linesGuarded v) (λ g. search)
+      (λ g. let open-lines : Open (v .attrs) (cursorLineStart v) (screenEnd v) =
+      λ i a b. rw protecting at (none-passes _ _ (cursorLineStart v) _ i g (omega arith) a b) in search)
+
+  safe-shift : (s : Shift) → SafeEffect (v .attrs) (shifting v s)
+  safe-shift s =
+      either (SafeEffect (v .attrs)) (cursorGuarded v) (λ g. search)
+      (λ g. let u = open-cursor v protecting g in search open-span)
 
   -- ---- negotiation
 
@@ -134,6 +149,10 @@ module _ (v : View) (protecting : v .frame .suppressed ≡ false) where
   unfolding transmitted
   safe-fields = search (without-first, safe-texts)
 
+  -- and what 27 sends
+  safe-modified : SafeEffect (v .attrs) (transmittedModified v)
+  safe-modified = search safe-modified-texts
+
   safe-suppressing : (n : ℕ) → eqb n (verbCode Do) ≡ false → SafeEffect (v .attrs) (suppressing v n)
   unfolding suppressing
   safe-suppressing n r = rw (r, protecting) (search (either (SafeEffect (v .attrs))))
@@ -154,13 +173,12 @@ module _ (v : View) (protecting : v .frame .suppressed ≡ false) where
       -- 6 to 12
       and (λ h r. search) and (λ h r. search) and (λ h r. search) and (λ h r. search) and (λ h r. search) and (λ h r. search) and (λ h r. search)
       -- 13 to 16
-      and (λ h r. search (unless-lines-guarded)) and (λ h r. search (unless-lines-guarded))
-      and (λ h r. search (unless-guarded, open-span)) and (λ h r. search (unless-guarded, open-span))
+      and (λ h r. safe-line-shift _) and (λ h r. safe-line-shift _) and (λ h r. safe-shift _) and (λ h r. safe-shift _)
       -- 17, 19
       and (λ h r. search) and (λ h r. search)
-      -- 20 to 26
+      -- 20 to 27
       and (λ h. past) and (λ h r. safe-fields) and (λ h. past) and (λ h r. search (unless-guarded, field-open)) and (λ h. past) and (λ h. past)
-      and (λ h r. search (unless-guarded, open-rest))
+      and (λ h r. search (unless-guarded, open-rest)) and (λ h r. safe-modified)
       -- 29 to 35
       and (λ h. past) and (λ h r. search) and (λ h r. search) and (λ h r. search) and (λ h r. search) and (λ h r. search) and (λ h r. search)
       -- 36, 37, 38, 41
@@ -194,7 +212,7 @@ module _ (v : View) (protecting : v .frame .suppressed ≡ false) where
   safe-key Back g = search
   safe-key Tab g = search
   safe-key Send g = safe-fields
-  safe-key Delete g = search (unless-guarded, open-span)
+  safe-key Delete g = safe-shift Deletion
   safe-key (Function n) g = search
   safe-key Meaningless g = search
 

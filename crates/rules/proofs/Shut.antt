@@ -12,12 +12,12 @@ use Rattle.rules.specs.Session.{State, screen}
 use Rattle.rules.specs.Refusal.{numberOf}
 use Rattle.rules.specs.Operation.{blank, opened}
 use Rattle.rules.specs.cases.Computing.{computing}
-use Rattle.rules.specs.cases.Vocabulary.{Case, Trial, Passes, characters, case, opening, starting, at, modes, detOff, maps, asking, reading, afterCr, showing, attributed, unchanged, det, verb, see, hostTrial, keyTrial, refusedTrial, heard, struck, observed, expected, seeing}
+use Rattle.rules.specs.cases.Vocabulary.{Case, Trial, Passes, characters, case, opening, starting, at, modes, detOff, maps, asking, reading, afterCr, showing, attributed, unmarked, unchanged, det, verb, see, hostTrial, keyTrial, refusedTrial, heard, struck, observed, expected, seeing}
 use Rattle.rules.proofs.Passing.{each-equal, all-pass}
 -- the worked forms are checked first
 use Rattle.rules.proofs.Worked.{worked}
 
--- ---- starts: screens of 4 by 2 with DET on, whose least reply room is 58
+-- ---- starts: screens of 4 by 2 with DET on, whose least reply room is 72
 
 -- "ABcd" over "eFGH": a protected label, an unprotected field "cde" that crosses the line end, a protected rest
 abbrev label : Bool → ℕ → ℕ → State
@@ -71,7 +71,7 @@ error code number = det (41 ∷ code ∷ number ∷ [])
 
 -- host bytes, all taken, and what they leave; those that change nothing
 abbrev reads : List ℕ → (State → State) → List ℕ → Trial
-reads input leaves reply = hostTrial 58 input (length input) leaves reply
+reads input leaves reply = hostTrial 72 input (length input) leaves reply
 
 abbrev hears : List ℕ → List ℕ → Trial
 hears input reply = reads input unchanged reply
@@ -103,13 +103,13 @@ errs number code parameters = hears (det (code ∷ parameters)) (error code numb
 
 -- a key that is taken and moves the cursor, one that is typed, one that is refused
 abbrev press : ℕ → ℕ → ℕ → List ℕ → Trial
-press k x y reply = keyTrial 58 k (at x y) reply
+press k x y reply = keyTrial 72 k (at x y) reply
 
 abbrev types : String → ℕ → ℕ → String → Trial
-types k x y text = keyTrial 58 (char k) (see x y text) []
+types k x y text = keyTrial 72 (char k) (see x y text) []
 
 abbrev deletes : ℕ → ℕ → String → Trial
-deletes x y text = keyTrial 58 127 (see x y text) []
+deletes x y text = keyTrial 72 127 (see x y text) []
 
 abbrev refuses : ℕ → ℕ → ℕ → Trial
 refuses number room k = refusedTrial number room (struck k)
@@ -168,7 +168,7 @@ fields =
     ∷ sides "the edit span ends with its field" 0 0 (does 16 0 0 "b cdeF1G" ∷ [])
     ∷ sides "key 9 to the next field, else the first" 0 0 (press 9 2 0 [] ∷ press 9 2 1 [] ∷ press 9 0 0 [] ∷ [])
     ∷ sides "19 to the last start before the cursor" 3 1 (goes 19 2 1 ∷ goes 19 2 0 ∷ goes 19 0 0 ∷ goes 19 0 0 ∷ [])
-    ∷ sides "typing goes on to a cell of another class" 1 0 (types "x" 2 0 "axcdeF1G" ∷ refuses 7 58 (char "1") ∷ [])
+    ∷ sides "typing goes on to a cell of another class" 1 0 (types "x" 2 0 "axcdeF1G" ∷ refuses 7 72 (char "1") ∷ [])
     ∷ sides "typing goes on over a guarded cell" 0 1 (types "x" 2 1 "abcdxF1G" ∷ [])
     ∷ []
 
@@ -186,7 +186,7 @@ guards =
     ∷ closed "keys 9, 8 and 13 without a field" 3 1 (press 9 3 1 [] ∷ press 8 3 1 [] ∷ press 13 0 0 (from 0 0 "") ∷ [])
     ∷ closed "12 without an unprotected cell" 3 1 (goes 12 0 0 ∷ [])
     ∷ closed "19 without a field" 3 1 (goes 19 0 0 ∷ [])
-    ∷ closed "35 without a field" 3 1 (goes 35 0 0 ∷ [])
+    ∷ closed "35 without a field" 3 1 (reads (det (35 ∷ [])) (λ s. unmarked (at 0 0 s)) [] ∷ [])
     ∷ form "23 and 26 on a guarded cell" 2 1 (sends 23 2 1 (from 2 1 "") ∷ sends 26 2 1 (from 2 1 "") ∷ [])
     ∷ lifted "23 and 26 on a protected cell, suppressed" 2 1 (sends 23 2 1 (from 1 1 "FGH") ∷ sends 26 2 1 (from 2 1 "GH") ∷ [])
     ∷ form "15 and 16 do nothing on a guarded cell" 1 0 (goes 15 1 0 ∷ goes 16 1 0 ∷ [])
@@ -232,7 +232,7 @@ moves =
     (reads (det (1 ∷ 7 ∷ [])) (asking (maps 7 255 255 255 255)) (det (1 ∷ 126 ∷ []))
     ∷ reads (det (2 ∷ 0 ∷ [])) (asking (maps 7 0 255 255 255)) (det (2 ∷ 31 ∷ []))
     ∷ reads (det (3 ∷ 9 ∷ [])) (asking (maps 7 0 9 255 255)) (det (3 ∷ 63 ∷ []))
-    ∷ reads (det (4 ∷ 1 ∷ 2 ∷ [])) (asking (maps 7 0 9 1 2)) (det (4 ∷ 144 ∷ 121 ∷ [])) ∷ [])
+    ∷ reads (det (4 ∷ 1 ∷ 2 ∷ [])) (asking (maps 7 0 9 1 2)) (det (4 ∷ 208 ∷ 121 ∷ [])) ∷ [])
     ∷ form "41 has no answer and no effect" 2 0 (hears (det (41 ∷ 5 ∷ 3 ∷ [])) [] ∷ [])
     ∷ lifted "41 has no effect while suppressed" 2 0 (hears (det (41 ∷ 5 ∷ 3 ∷ [])) [] ∷ [])
     ∷ form "keys 128 and 143 send FN 1 and 16" 2 0 (press 128 2 0 (det (40 ∷ 1 ∷ [])) ∷ press 143 2 0 (det (40 ∷ 16 ∷ [])) ∷ [])
@@ -246,7 +246,7 @@ moves-pass = (tt, (tt, (tt, (tt, (tt, (tt, (tt, (tt, (tt, (tt, (tt, (tt, (tt, (t
 
 -- 29: all spaces, attributes 0, cursor (0,0)
 abbrev erasesAll : Trial
-erasesAll = reads (det (29 ∷ [])) (λ s. see 0 0 "        " (attributed (replicate 8 0) s)) []
+erasesAll = reads (det (29 ∷ [])) (λ s. unmarked (see 0 0 "        " (attributed (replicate 8 0) s))) []
 
 unfoldable pub edits : List Case
 edits =
@@ -262,8 +262,8 @@ edits =
     ∷ lifted "33 while suppressed" 1 0 (does 33 1 0 "A   eFGH" ∷ [])
     ∷ form "34 erases the rest of the field" 3 0 (does 34 3 0 "ABc  FGH" ∷ [])
     ∷ lifted "34 while suppressed" 2 1 (does 34 2 1 "ABcdeF  " ∷ [])
-    ∷ form "35 erases all unprotected cells" 3 1 (does 35 2 0 "AB   FGH" ∷ [])
-    ∷ lifted "35 while suppressed" 3 1 (does 35 2 0 "AB   FGH" ∷ [])
+    ∷ form "35 erases all unprotected cells" 3 1 (reads (det (35 ∷ [])) (λ s. unmarked (see 2 0 "AB   FGH" s)) [] ∷ [])
+    ∷ lifted "35 while suppressed" 3 1 (reads (det (35 ∷ [])) (λ s. unmarked (see 2 0 "AB   FGH" s)) [] ∷ [])
     ∷ form "29 leaves spaces, attributes 0, cursor (0,0)" 3 1 (erasesAll ∷ sends 21 0 0 (from 0 0 "        ") ∷ [])
     ∷ lifted "29 leaves protection suppressed" 3 1 (erasesAll ∷ [])
     ∷ free "37 writes as host data, at the last cell too" 2 1
@@ -279,7 +279,7 @@ edits-pass = (tt, (tt, (tt, (tt, (tt, (tt, (tt, (tt, (tt, (tt, (tt, (tt, (tt, (t
 
 -- ---- FORMAT DATA
 
--- a screen of 256 cells, whose least reply room is 1794
+-- a screen of 256 cells, whose least reply room is 2304
 abbrev wide : State
 wide = starting 128 2 false (replicate 256 0x2e) (replicate 256 0) 0 0
 
@@ -296,8 +296,8 @@ formatting =
     (errs 12 36 (32 ∷ 0 ∷ 0 ∷ 7 ∷ []) ∷ errs 12 36 (0 ∷ 1 ∷ 0 ∷ 7 ∷ []) ∷ errs 12 36 (128 ∷ 0 ∷ 0 ∷ 0 ∷ [])
     ∷ errs 11 36 (0 ∷ 0 ∷ 0 ∷ 7 ∷ []) ∷ errs 11 36 (0 ∷ 0 ∷ 1 ∷ 0 ∷ []) ∷ [])
     ∷ case "36: the count's high byte counts 256" wide
-    (hostTrial 1794 (det (36 ∷ 9 ∷ 0 ∷ 1 ∷ 0 ∷ [])) 10 (attributed (replicate 256 9)) [] ∷ [])
-    ∷ case "36: one more than 256 where 256 remain" wide (hostTrial 1794 (det (36 ∷ 9 ∷ 0 ∷ 1 ∷ 1 ∷ [])) 10 unchanged (error 36 11) ∷ [])
+    (hostTrial 2304 (det (36 ∷ 9 ∷ 0 ∷ 1 ∷ 0 ∷ [])) 10 (attributed (replicate 256 9)) [] ∷ [])
+    ∷ case "36: one more than 256 where 256 remain" wide (hostTrial 2304 (det (36 ∷ 9 ∷ 0 ∷ 1 ∷ 1 ∷ [])) 10 unchanged (error 36 11) ∷ [])
     ∷ []
 
 pub formatting-pass : Passes formatting
@@ -313,7 +313,7 @@ errors =
     ∷ form "too many parameters where none are taken" 2 0 (errs 9 11 (1 ∷ []) ∷ errs 9 11 (replicate 8 1) ∷ [])
     ∷ form "parameter count goes before values" 2 0
     (errs 10 36 (replicate 3 32) ∷ errs 9 36 (replicate 5 32) ∷ errs 9 36 (replicate 12 32) ∷ [])
-    ∷ form "all other codes draw ERROR 2" 2 0 (map (λ code. errs 2 code []) (0 ∷ 18 ∷ 27 ∷ 28 ∷ 39 ∷ 40 ∷ 42 ∷ 254 ∷ []))
+    ∷ form "all other codes draw ERROR 2" 2 0 (map (λ code. errs 2 code []) (0 ∷ 18 ∷ 28 ∷ 39 ∷ 40 ∷ 42 ∷ 254 ∷ []))
     ∷ form "an unknown code, whatever follows it" 2 0
     (errs 2 18 (replicate 8 1) ∷ hears (det (255 ∷ 255 ∷ [])) (det (41 ∷ 255 ∷ 255 ∷ 2 ∷ [])) ∷ [])
     ∷ lifted "ERROR leaves protection suppressed" 2 0 (errs 2 18 [] ∷ errs 9 11 (1 ∷ []) ∷ errs 11 37 (0 ∷ 31 ∷ []) ∷ [])
@@ -361,10 +361,10 @@ telnet =
     ∷ case "held bytes 0 again after another option's" off (hears (0xff ∷ 0xfa ∷ 21 ∷ 7 ∷ 0xff ∷ 0xf0 ∷ []) [] ∷ [])
     ∷ case "data and negotiation leave held bytes" (holds (1 ∷ 2 ∷ 3 ∷ []))
     (reads (characters "x") (see 3 0 "ABxdeFGH") [] ∷ hears (verb 253 3) (verb 252 3) ∷ hears (0xff ∷ 0xf1 ∷ []) [] ∷ [])
-    -- two questions, each answered with 8 bytes: with room 65 there are 57 left after the first, one too few; with 66 there are 58
-    ∷ form "not taken with 7C + 1 bytes free" 2 0 (hostTrial 65 (det (17 ∷ []) ++ det (17 ∷ [])) 6 unchanged (det (18 ∷ 2 ∷ 0 ∷ [])) ∷ [])
-    ∷ form "taken with 7C + 2 bytes free" 2 0
-    (hostTrial 66 (det (17 ∷ []) ++ det (17 ∷ [])) 12 unchanged (det (18 ∷ 2 ∷ 0 ∷ []) ++ det (18 ∷ 2 ∷ 0 ∷ [])) ∷ [])
+    -- two questions, each answered with 8 bytes: with room 79 there are 71 left after the first, one too few; with 80 there are 72
+    ∷ form "not taken with 9C - 1 bytes free" 2 0 (hostTrial 79 (det (17 ∷ []) ++ det (17 ∷ [])) 6 unchanged (det (18 ∷ 2 ∷ 0 ∷ [])) ∷ [])
+    ∷ form "taken with 9C bytes free" 2 0
+    (hostTrial 80 (det (17 ∷ []) ++ det (17 ∷ [])) 12 unchanged (det (18 ∷ 2 ∷ 0 ∷ []) ++ det (18 ∷ 2 ∷ 0 ∷ [])) ∷ [])
     ∷ []
 
 pub telnet-pass : Passes telnet
@@ -411,13 +411,13 @@ order =
     ∷ both "refusal 2 goes before 3 to 5 and 9" 2 1 (line 5 (31 ∷ characters "bcd") 5)
     ∷ both "refusal 3 goes before 4, 5 and 9" 3 1 (line 4 (31 ∷ characters "bcd") 4)
     ∷ both "refusal 4 goes before 5 and 9" 4 1 (line 4 (characters "abcd") 4)
-    ∷ both "refusal 5 goes before 9" 5 29 (line 4 (characters "abcd") 0)
+    ∷ both "refusal 5 goes before 9" 5 35 (line 4 (characters "abcd") 0)
     ∷ denied "refusal 9, a key with no meaning" (line 4 (characters "abcd") 0)
-    (map (λ k. (9, 30, k)) (0 ∷ 1 ∷ 7 ∷ 10 ∷ 12 ∷ 14 ∷ 31 ∷ 144 ∷ 255 ∷ []))
+    (map (λ k. (9, 36, k)) (0 ∷ 1 ∷ 7 ∷ 10 ∷ 12 ∷ 14 ∷ 31 ∷ 144 ∷ 255 ∷ []))
     ∷ denied "refusal 8, send or function key, DET off" off
-    ((5, 57, 13) ∷ (5, 57, 128) ∷ (8, 58, 13) ∷ (8, 58, 128) ∷ (8, 58, 136) ∷ (8, 58, 143) ∷ (9, 58, 144) ∷ [])
+    ((5, 71, 13) ∷ (5, 71, 128) ∷ (8, 72, 13) ∷ (8, 72, 128) ∷ (8, 72, 136) ∷ (8, 72, 143) ∷ (9, 72, 144) ∷ [])
     ∷ denied "refusal 6, typed or delete on a guarded cell" (label false 1 0)
-    ((5, 57, char "x") ∷ (5, 57, 127) ∷ (6, 58, char "x") ∷ (6, 58, 127) ∷ [])
+    ((5, 71, char "x") ∷ (5, 71, 127) ∷ (6, 72, char "x") ∷ (6, 72, 127) ∷ [])
     ∷ denied "refusal 7, typed not of the cell's class" (cell 24 false) ((5, 8, char "x") ∷ (7, 9, char "x") ∷ [])
     ∷ []
 
@@ -429,22 +429,22 @@ unfoldable pub refusals : List Case
 refusals =
     case "without DET the other keys are taken" off
     (types "x" 3 0 "ABxdeFGH" ∷ deletes 3 0 "ABx eFGH" ∷ press 8 2 0 [] ∷ press 9 2 0 [] ∷ [])
-    ∷ both "refusal 1, too wide" 1 933 (starting 133 1 false (replicate 133 32) (replicate 133 0) 0 0)
-    ∷ both "refusal 1, too high" 1 457 (starting 1 65 false (replicate 65 32) (replicate 65 0) 0 0)
+    ∷ both "refusal 1, too wide" 1 1197 (starting 133 1 false (replicate 133 32) (replicate 133 0) 0 0)
+    ∷ both "refusal 1, too high" 1 585 (starting 1 65 false (replicate 65 32) (replicate 65 0) 0 0)
     ∷ both "refusal 1, no line" 1 2 (starting 4 0 false [] [] 0 0)
-    ∷ both "refusal 2, the character buffer" 2 30 (line 4 (characters "abc") 0)
-    ∷ both "refusal 2, the attribute buffer" 2 23 (line 3 (characters "abc") 0)
-    ∷ both "refusal 3, a character 31" 3 30 (line 4 (31 ∷ characters "bcd") 0)
-    ∷ both "refusal 3, a character 127" 3 30 (line 4 (characters "abc" ++ (127 ∷ [])) 0)
-    ∷ case "characters 32 and 126 are taken" (line 4 (characters "a ~d") 0) (hostTrial 30 (characters "x") 1 (see 1 0 "x ~d") [] ∷ [])
-    ∷ both "refusal 4, the cursor off the screen in x" 4 58 (label false 4 0)
-    ∷ both "refusal 4, the cursor off the screen in y" 4 58 (label false 0 2)
-    ∷ both "refusal 4, more than six bytes held" 4 58 (holds (replicate 7 0))
+    ∷ both "refusal 2, the character buffer" 2 36 (line 4 (characters "abc") 0)
+    ∷ both "refusal 2, the attribute buffer" 2 27 (line 3 (characters "abc") 0)
+    ∷ both "refusal 3, a character 31" 3 36 (line 4 (31 ∷ characters "bcd") 0)
+    ∷ both "refusal 3, a character 127" 3 36 (line 4 (characters "abc" ++ (127 ∷ [])) 0)
+    ∷ case "characters 32 and 126 are taken" (line 4 (characters "a ~d") 0) (hostTrial 36 (characters "x") 1 (see 1 0 "x ~d") [] ∷ [])
+    ∷ both "refusal 4, the cursor off the screen in x" 4 72 (label false 4 0)
+    ∷ both "refusal 4, the cursor off the screen in y" 4 72 (label false 0 2)
+    ∷ both "refusal 4, more than six bytes held" 4 72 (holds (replicate 7 0))
     ∷ case "a key with six bytes held leaves the reader" (holds (replicate 6 1)) (types "x" 3 0 "ABxdeFGH" ∷ [])
     ∷ case "bytes held at rest are not the next command's" (holds (replicate 6 1))
     (reads (det (11 ∷ [])) (λ s. reading Rest [] (at 3 0 s)) [] ∷ [])
-    ∷ form "reply room 58 accepted, 57 refused 5" 2 0
-    (hears (det (17 ∷ [])) (det (18 ∷ 2 ∷ 0 ∷ [])) ∷ refusedTrial 5 57 (heard (det (17 ∷ []))) ∷ [])
+    ∷ form "reply room 72 accepted, 71 refused 5" 2 0
+    (hears (det (17 ∷ [])) (det (18 ∷ 2 ∷ 0 ∷ [])) ∷ refusedTrial 5 71 (heard (det (17 ∷ []))) ∷ [])
     ∷ []
 
 pub refusals-pass : Passes refusals
@@ -453,19 +453,21 @@ refusals-pass = (tt, (tt, (tt, (tt, (tt, (tt, (tt, (tt, (tt, (tt, (tt, (tt, (tt,
 
 -- ---- open
 
--- What it leaves: DET off, protection in effect, cursor (0,0), nothing half read or held. Lent are characters 200 and attribute bytes 9.
+-- What it leaves: DET off, protection in effect, cursor (0,0), nothing half read or held. Lent are characters 200, attribute bytes 9 and marks 1.
 abbrev begun : ℕ → ℕ → List ℕ → List ℕ → State
 begun m n chars attrs = detOff (starting m n false chars attrs 0 0)
 
 abbrev opens : String → ℕ → ℕ → Case
 opens title m n =
     let cells = n * m in
-    opening title m n (screen (replicate cells 200) (replicate cells 9)) 0 (begun m n (replicate cells 32) (replicate cells 0))
+    opening title m n (screen (replicate cells 200) (replicate cells 9) (replicate cells 1)) 0
+    (unmarked (begun m n (replicate cells 32) (replicate cells 0)))
 
 -- refused, with so many cells lent: the buffers as they came, and a session with M and N 0
 abbrev declines : String → ℕ → ℕ → ℕ → ℕ → ℕ → Case
 declines title number m n chars attrs =
-    opening title m n (screen (replicate chars 200) (replicate attrs 9)) number (begun 0 0 (replicate chars 200) (replicate attrs 9))
+    opening title m n (screen (replicate chars 200) (replicate attrs 9) (replicate chars 1)) number
+    (begun 0 0 (replicate chars 200) (replicate attrs 9))
 
 unfoldable pub opened-cases : List Case
 opened-cases =

@@ -80,7 +80,7 @@ half pairs text message = padWith (withPairs startValues pairs) (lineOf text) me
 abbrev row : ℕ → Bool → Pad → State
 row m on p = padded p (x3Switched on (modes false false (starting m 1 false (replicate m 32) (replicate m 0) 0 0)))
 
--- 20 by 2, blank, nothing protected, DET off and 30 on; the least reply room is 282
+-- 20 by 2, blank, nothing protected, DET off and 30 on; the least reply room is 360
 abbrev ward : List ℕ → List ℕ → State
 ward pairs text =
     padded (holding pairs text) (x3Switched true (modes false false (starting 20 2 false (replicate 40 32) (replicate 40 0) 0 0)))
@@ -98,23 +98,23 @@ x3 payload = subnegotiation 30 payload
 
 -- host bytes, all of them taken
 abbrev bytes : List ℕ → (State → State) → List ℕ → Trial
-bytes input leaves replies = hostTrial 282 input (length input) leaves replies
+bytes input leaves replies = hostTrial 360 input (length input) leaves replies
 
 abbrev short : ℕ → List ℕ → (State → State) → List ℕ → Trial
 short room input leaves replies = hostTrial room input (length input) leaves replies
 
 abbrev types : ℕ → (State → State) → List ℕ → Trial
-types k leaves replies = keyTrial 282 k leaves replies
+types k leaves replies = keyTrial 360 k leaves replies
 
 -- ---- option 30
 
 unfoldable pub switching : List Case
 switching =
     case "DO 30 and DONT 30 from 37 cells up" (row 37 false (holding [] []))
-    (short 261 (verb 253 30) (x3Switched true) (verb 251 30) ∷ short 261 (verb 253 30) unchanged []
-    ∷ short 261 (verb 254 30) (x3Switched false) (verb 252 30) ∷ short 261 (verb 254 30) unchanged [] ∷ [])
+    (short 333 (verb 253 30) (x3Switched true) (verb 251 30) ∷ short 333 (verb 253 30) unchanged []
+    ∷ short 333 (verb 254 30) (x3Switched false) (verb 252 30) ∷ short 333 (verb 254 30) unchanged [] ∷ [])
     ∷ case "DO 30 at 36 cells is declined each time" (row 36 false (holding [] []))
-    (short 254 (verb 253 30) unchanged (verb 252 30) ∷ short 254 (verb 253 30) unchanged (verb 252 30) ∷ [])
+    (short 324 (verb 253 30) unchanged (verb 252 30) ∷ short 324 (verb 253 30) unchanged (verb 252 30) ∷ [])
     ∷ case "WILL 30 is answered DONT, WONT not" (ward [] [])
     (bytes (verb 251 30) unchanged (verb 254 30) ∷ bytes (verb 252 30) unchanged [] ∷ [])
     ∷ case "DONT 30 empties the line, unsent, and leaves suppression and values" (modes true true (ward (3 ∷ 2 ∷ []) (characters "ab")))
@@ -195,14 +195,14 @@ typing =
     ∷ case "an echo's LF after a CR is obeyed" (afterCr true (ward (2 ∷ 1 ∷ []) []))
     (types 10 (shows 0 1 "" (2 ∷ 1 ∷ []) (10 ∷ [])) [] ∷ [])
     ∷ case "a full line: 10 for a plain key, none for an edit key" (ward (15 ∷ 1 ∷ 16 ∷ 127 ∷ []) (replicate 128 65))
-    (refusedTrial 10 282 (struck 65) ∷ types 127 (padded (holding (15 ∷ 1 ∷ 16 ∷ 127 ∷ []) (replicate 127 65))) []
+    (refusedTrial 10 360 (struck 65) ∷ types 127 (padded (holding (15 ∷ 1 ∷ 16 ∷ 127 ∷ []) (replicate 127 65))) []
     ∷ types 65 (padded (holding (15 ∷ 1 ∷ 16 ∷ 127 ∷ []) (replicate 128 65))) [] ∷ [])
     ∷ case "a full line goes out with its forwarding key" (ward (3 ∷ 8 ∷ []) (replicate 128 65))
     (types 127 (padded (holding (3 ∷ 8 ∷ []) [])) (replicate 128 65 ++ (127 ∷ [])) ∷ [])
     ∷ case "echo on a guarded cell is dropped, class is not tested"
     (padded (holding (2 ∷ 1 ∷ []) []) (x3Switched true (modes false false (starting 20 2 false (replicate 40 32) (24 ∷ 8 ∷ replicate 38 0) 0 0))))
-    (keyTrial 282 65 (λ s. padded (holding (2 ∷ 1 ∷ []) (65 ∷ [])) (at 1 0 (showing (65 ∷ replicate 39 32) s))) []
-    ∷ keyTrial 282 66 (padded (holding (2 ∷ 1 ∷ []) (65 ∷ 66 ∷ []))) [] ∷ [])
+    (keyTrial 360 65 (λ s. padded (holding (2 ∷ 1 ∷ []) (65 ∷ [])) (at 1 0 (showing (65 ∷ replicate 39 32) s))) []
+    ∷ keyTrial 360 66 (padded (holding (2 ∷ 1 ∷ []) (65 ∷ 66 ∷ []))) [] ∷ [])
     ∷ case "DET on: the line is kept, keys are document 01's" (ward (3 ∷ 2 ∷ []) (97 ∷ []))
     (bytes (verb 253 20) (modes true false) (verb 251 20) ∷ types 98 (λ s. at 1 0 (showing (98 ∷ replicate 39 32) s)) []
     ∷ types 127 unchanged [] ∷ bytes (verb 254 20) detOff (verb 252 20)
@@ -260,7 +260,7 @@ pub ranges-pass : Passes ranges
 unfolding computing seeing ranges
 ranges-pass = (tt, (tt, (tt, (tt, (tt, (tt, tt))))))
 
--- ---- every key while the line takes the keys: 37 cells in a row, the start's parameters; the least reply room is 261
+-- ---- every key while the line takes the keys: 37 cells in a row, the start's parameters; the least reply room is 333
 
 abbrev taking : State
 taking = row 37 true (holding [] [])
@@ -274,7 +274,7 @@ lineLeaves k = holding [] (if ltb k 128 then k ∷ [] else [])
 
 abbrev lineSweep : Sweep
 lineSweep =
-    sweep "every key while the line takes them" 261 (λ k. look (called taking (key k (replicate 261 lent)))) lineLeaves lineDoes
+    sweep "every key while the line takes them" 333 (λ k. look (called taking (key k (replicate 333 lent)))) lineLeaves lineDoes
 
 abbrev lineTold : ℕ → Brief
 lineTold k = briefly (verdict (pressTests taking k)) taking 1 (keyRan taking k)
@@ -307,7 +307,7 @@ line-swept : Swept lineSweep lineTold
 unfolding computing seeing ready passing
 line-swept =
     record {
-      full = λ k. key-full taking 261 refl k;
+      full = λ k. key-full taking 333 refl k;
       pad = λ k h. line-pad k (below-passes (λ k. not (ltb k 128) || alone k) 256 line-alone k h);
       beside = line-beside;
     }

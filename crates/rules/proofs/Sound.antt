@@ -23,16 +23,18 @@ use Rattle.rules.specs.Call.{Call, host, key, called, left, stateAfter}
 use Rattle.rules.proofs.Refusals.{asked}
 use Rattle.rules.proofs.Calls.{replyOf, refusalBy, ranBy, called-cases}
 use Rattle.rules.proofs.Characters.{Text}
+use Rattle.rules.proofs.Marks.{Marks, still-marks, no-marks}
 use Rattle.rules.proofs.Views.{SoundView}
 use Rattle.rules.proofs.Pads.{SoundPad, pad-parts, pad-whole, fresh-pad, pad-told, pad-pressed}
 use Rattle.rules.proofs.Effects.{keeps-happening, keeps-key}
 
--- What refusals 1 to 4 ask of a state, its screen being m cells wide and n lines high.
+-- What refusals 1 to 4 and 11 ask of a state, its screen being m cells wide and n lines high.
 pub record Sound (m n : ℕ) (s : State) : Type 0 where
   pub view : SoundView m n (viewOf s)
   pub held : s .session .reader .held .count ≤ 6
   pub pad : SoundPad (s .session .pad)
   pub chars : Text (n * m) (s .screen .chars)
+  pub marks : Marks (n * m) (s .screen .marks)
 
 -- ---- it stays so
 
@@ -54,13 +56,25 @@ module _ {m n : ℕ} {s : State} (k : Sound m n s) where
   unfolding hostByte
   sound-byte b =
       let e = keeps-happening (k .view) (s .session .reader) (s .session .pad) _ in
-      record { view = e .view; held = held-few _ (k .held) _; pad = pad-told (k .pad) _ _; chars = e .changes _ _ (k .chars) }
+      record {
+        view = e .view;
+        held = held-few _ (k .held) _;
+        pad = pad-told (k .pad) _ _;
+        chars = e .changes _ _ (k .chars);
+        marks = still-marks (k .marks) _;
+      }
 
   -- a key
   pub sound-key : (code : ℕ) → Sound m n ((keyRan s code) .state)
   sound-key code =
       let e = keeps-key s (k .view) (k .pad) code in
-      record { view = e .view; held = k .held; pad = pad-pressed s (k .pad) code; chars = e .changes _ _ (k .chars) }
+      record {
+        view = e .view;
+        held = k .held;
+        pad = pad-pressed s (k .pad) code;
+        chars = e .changes _ _ (k .chars);
+        marks = still-marks (k .marks) _;
+      }
 
 -- host bytes
 pub sound-running : {m n : ℕ} {s : State} → Sound m n s → (bs : List ℕ) → Sound m n ((running s bs) .state)
@@ -90,7 +104,8 @@ halves a b e = (and-left a b e, and-right a b e)
 -- what refusals 1 and 2 ask
 abbrev Sizes : Frame → Screen → Type 0
 Sizes f b =
-    (1 ≤ f .width) × (f .width ≤ 132) × (1 ≤ f .height) × (f .height ≤ 64) × (length (b .chars) ≡ cells f) × (length (b .attrs) ≡ cells f)
+    (1 ≤ f .width) × (f .width ≤ 132) × (1 ≤ f .height) × (f .height ≤ 64)
+    × (length (b .chars) ≡ cells f) × (length (b .attrs) ≡ cells f) × (length (b .marks) ≡ cells f)
 
 sizes-of : (f : Frame) (b : Screen) (others : List Test) → isTaken (verdict (sizeTests f b ++ others)) ≡ true
     → Sizes f b × (isTaken (verdict others) ≡ true)
@@ -101,16 +116,17 @@ sizes-of f b others e =
     let z = halves (between 1 132 (f .width)) (between 1 64 (f .height)) (size .0) in
     let w = halves (leb 1 (f .width)) (leb (f .width) 132) (z .0) in
     let h = halves (leb 1 (f .height)) (leb (f .height) 64) (z .1) in
-    let l = halves (eqb (length (b .chars)) (cells f)) (eqb (length (b .attrs)) (cells f)) (buffers .0) in
+    let l = halves (eqb (length (b .chars)) (cells f)) _ (buffers .0) in
+    let k = halves (eqb (length (b .attrs)) (cells f)) (eqb (length (b .marks)) (cells f)) (l .1) in
     (omega (arith, leb-true, eqb-true), buffers .1)
 
--- what refusals 1 to 5 ask
+-- what refusals 1 to 5 and 11 ask
 pub record Accepted (s : State) (reply : List ℕ) : Type 0 where
   pub sound : Sound (s .session .frame .width) (s .session .frame .height) s
   pub room : replyRoom (s .session .frame) ≤ length reply
 
 accepted : (s : State) (reply : List ℕ) (others : List Test)
-    → isTaken (verdict (sizeTests (s .session .frame) (s .screen) ++ (stateTests (s .session) (s .screen .chars) reply ++ others))) ≡ true
+    → isTaken (verdict (sizeTests (s .session .frame) (s .screen) ++ (stateTests (s .session) (s .screen) reply ++ others))) ≡ true
     → Accepted s reply
 unfolding stateTests sessionOk
 accepted s reply others e =
@@ -118,7 +134,8 @@ accepted s reply others e =
     let z = sizes-of _ _ _ e in
     let text = asked _ _ refl (z .1) in
     let session = asked _ _ refl (text .1) in
-    let room = asked _ _ refl (session .1) in
+    let small = asked _ _ refl (session .1) in
+    let room = asked _ _ refl (small .1) in
     let o = halves (onScreen (f .width) (f .height) (f .cursor)) _ (session .0) in
     let p = halves (ltb (f .cursor .x .0) (f .width)) (ltb (f .cursor .y .0) (f .height)) (o .0) in
     let h = halves (leb (s .session .reader .held .count) 6) _ (o .1) in
@@ -130,6 +147,7 @@ accepted s reply others e =
         held = omega (arith, leb-true);
         pad = pad-parts (s .session .pad) (x .1);
         chars = record { long = omega arith; printing = text .0 };
+        marks = record { long = omega arith; small = small .0 };
       };
       room = omega (arith, leb-true);
     }
@@ -151,7 +169,7 @@ passes {m} {n} {s} k reply r =
     let wide : (not (f .x3) || leb x3Cells (cells f)) ≡ true =
     true-or-false (f .x3) (λ on. rw on (le-leb x3Cells (cells f) (rw (z .width, z .height) (v .x3 on)))) (λ off. rw off) in
     rw (z .width, z .height, le-leb 1 m (omega arith), le-leb m 132 (z .wide), le-leb 1 n (omega arith), le-leb n 64 (z .high))
-    (rw (eq-eqb _ _ (k .chars .long), eq-eqb _ _ (v .attrs), k .chars .printing)
+    (rw (eq-eqb _ _ (k .chars .long), eq-eqb _ _ (v .attrs), eq-eqb _ _ (k .marks .long), k .chars .printing, k .marks .small)
     (rw (lt-ltb _ m (v .cursor .0), lt-ltb _ n (v .cursor .1), le-leb _ 6 (k .held), rw (z .width, z .height) at wide, pad-whole (k .pad), le-leb _ _ (rw (z .width, z .height) at r))))
 
 -- ---- open
@@ -184,6 +202,7 @@ module _ (m n : ℕ) (b : Screen) where
         held = omega arith;
         pad = fresh-pad;
         chars = record { long = length-replicate (n * m) 32; printing = spaces-printable (n * m) };
+        marks = record { long = length-replicate (n * m) 0; small = no-marks (n * m) };
       })
       (λ f e. not-both (isTaken (verdict (sizeTests (freshFrame m n) b))) (rw e) f)
 

@@ -11,7 +11,7 @@ use Rattle.rules.specs.cases.Vocabulary.{Case, Trial, characters, case, 
 use Rattle.rules.proofs.Passing.{each-equal}
 
 -- Form F: 8 by 2, "WT 70 #4" over "UNIT mg "; "70 " and "mg " have attribute 0, the rest 8. DET is on, and all facilities are agreed. The
--- reply room is 114.
+-- reply room is 144.
 abbrev pub startF : ℕ → ℕ → State
 startF x y =
     starting 8 2 false
@@ -23,7 +23,7 @@ formF title x y trials = case title (startF x y) trials
 
 -- what is given, all of it taken; what it leaves; its reply
 abbrev pub bytes : List ℕ → (State → State) → List ℕ → Trial
-bytes input leaves replies = hostTrial 114 input (length input) leaves replies
+bytes input leaves replies = hostTrial 144 input (length input) leaves replies
 
 unfoldable pub forms : List Case
 forms =
@@ -40,8 +40,8 @@ forms =
     ∷ [])
     ∷ formF "P4 move cursor" 3 0 (bytes (0xff ∷ 0xfa ∷ 0x14 ∷ 0x05 ∷ 0x07 ∷ 0x01 ∷ 0xff ∷ 0xf0 ∷ []) (at 7 1) [] ∷ [])
     ∷ formF "P5 host text on a guarded cell is dropped" 6 0 (bytes (characters "A") unchanged [] ∷ [])
-    ∷ formF "P5 typed on a guarded cell, refusal 6" 6 0 (refusedTrial 6 114 (struck 0x41) ∷ [])
-    ∷ formF "P6 typed, on to the next open cell" 5 0 (keyTrial 114 0x38 (see 5 1 "WT 708#4UNIT mg ") [] ∷ [])
+    ∷ formF "P5 typed on a guarded cell, refusal 6" 6 0 (refusedTrial 6 144 (struck 0x41) ∷ [])
+    ∷ formF "P6 typed, on to the next open cell" 5 0 (keyTrial 144 0x38 (see 5 1 "WT 708#4UNIT mg ") [] ∷ [])
     ∷ formF "P6 from the host, on to the next cell" 5 0 (bytes (characters "8") (see 6 0 "WT 708#4UNIT mg ") [] ∷ [])
     ∷ formF "P7 repeat" 4 0 (bytes (0xff ∷ 0xfa ∷ 0x14 ∷ 0x25 ∷ 0x03 ∷ 0x78 ∷ 0xff ∷ 0xf0 ∷ []) (see 6 0 "WT 7xx#4UNIT mg ") [] ∷ [])
     -- one run of three commands: each in a call of its own, then all in one call

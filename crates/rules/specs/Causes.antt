@@ -1,5 +1,5 @@
 -- Documents 01 and 02: what alone may change the attribute bytes, the options, suppression, the maps received, the characters, the
--- cursor, and what the PAD keeps. Nothing here is used by the rules: these are sentences about them.
+-- marks, the cursor, and what the PAD keeps. Nothing here is used by the rules: these are sentences about them.
 use mathlib.Core.Path.{_≡_}
 use mathlib.Core.Bool.{Bool, true, false, not, _&&_, _||_}
 use mathlib.Core.List.{List, [], _∷_}
@@ -34,6 +34,7 @@ pub data Aspect : Type 0 where
   suppression : Aspect
   received : Aspect  -- the maps received
   characters : Aspect
+  marks : Aspect
   cursor : Aspect
   values : Aspect  -- of the PAD's parameters
   line : Aspect  -- the edit line
@@ -45,6 +46,7 @@ Same x3 s t = t .session .frame .x3 ≡ s .session .frame .x3
 Same suppression s t = t .session .frame .suppressed ≡ s .session .frame .suppressed
 Same received s t = t .session .frame .received ≡ s .session .frame .received
 Same characters s t = t .screen .chars ≡ s .screen .chars
+Same marks s t = t .screen .marks ≡ s .screen .marks
 Same cursor s t = t .session .frame .cursor ≡ s .session .frame .cursor
 Same values s t = t .session .pad .values ≡ s .session .pad .values
 Same line s t = t .session .pad .line ≡ s .session .pad .line
@@ -110,12 +112,24 @@ changers characters =
       keys = printableOr (127 ∷ []);
       typed = between 1 127;
     }
--- nothing but host text, CR, LF and BS; 5 even where it draws an ERROR, 6 to 12, 19 to 22, 29, 35, 37; typing, keys 8, 9 and 13, and what
--- the edit line echoes
+-- nothing but the shifts 13 to 16 and key 127, typing, and 27, 29 and 35, which clear them
+changers marks =
+    record {
+      text = none;
+      executed = 13 ∷ 14 ∷ 15 ∷ 16 ∷ 27 ∷ 29 ∷ 35 ∷ [];
+      failed = [];
+      option = 20;
+      verbs = [];
+      messages = [];
+      keys = printableOr (127 ∷ []);
+      typed = none;
+    }
+-- nothing but host text, CR, LF and BS; 5 even where it draws an ERROR, 6 to 12, 19 to 22, 27, 29, 35, 37; typing, keys 8, 9 and 13, and
+-- what the edit line echoes
 changers cursor =
     record {
       text = printableOr (13 ∷ 10 ∷ 8 ∷ []);
-      executed = 5 ∷ 6 ∷ 7 ∷ 8 ∷ 9 ∷ 10 ∷ 11 ∷ 12 ∷ 19 ∷ 20 ∷ 21 ∷ 22 ∷ 29 ∷ 35 ∷ 37 ∷ [];
+      executed = 5 ∷ 6 ∷ 7 ∷ 8 ∷ 9 ∷ 10 ∷ 11 ∷ 12 ∷ 19 ∷ 20 ∷ 21 ∷ 22 ∷ 27 ∷ 29 ∷ 35 ∷ 37 ∷ [];
       failed = 5 ∷ [];
       option = 20;
       verbs = [];

@@ -1,4 +1,4 @@
--- Document 01, "Subcommands", and document 02, requests (ii) and (iii): the list of commands, what governs each, the ERROR that one
+-- Document 01, "Subcommands", and document 02, requests (ii), (iii) and (v): the list of commands, what governs each, the ERROR that one
 -- draws, and the seven that reach past protection.
 use mathlib.Core.Bool.{Bool, true, false, not, _&&_}
 use mathlib.Core.List.{List, [], _∷_}
@@ -34,6 +34,7 @@ use Rattle.rules.specs.declared.Command.the-variants.{
   CharShift,
   ReadCursor,
   Transmit,
+  TransmitModified,
   Erase,
   FormatData,
   Repeat,
@@ -72,6 +73,7 @@ use Rattle.rules.specs.Facility.{
   transmitRestOfScreen,
   transmitRestOfLine,
   transmitRestOfField,
+  modifiedFacility,
   repeating,
   protectionOnOff,
   protectionFacility,
@@ -127,6 +129,7 @@ rows =
     ∷ row 24 (Transmit RestOfScreen) 0 transmitRestOfScreen always
     ∷ row 25 (Transmit RestOfLine) 0 transmitRestOfLine always
     ∷ row 26 (Transmit RestOfField) 0 transmitRestOfField never
+    ∷ row 27 TransmitModified 0 modifiedFacility never
     ∷ row 29 (Erase WholeScreen) 0 Ungoverned always
     ∷ row 30 (Erase WholeLine) 0 eraseLine never
     ∷ row 31 (Erase WholeField) 0 eraseField never
@@ -202,6 +205,7 @@ valueFault v (LineShift s) h = NoFault
 valueFault v (CharShift s) h = NoFault
 valueFault v ReadCursor h = NoFault
 valueFault v (Transmit area) h = NoFault
+valueFault v TransmitModified h = NoFault
 valueFault v (Erase area) h = NoFault
 valueFault v Error h = NoFault
 

@@ -1,14 +1,15 @@
--- What a host byte or a key does. An effect is settled by the view alone: it names the characters that it moves and sends by
--- their cells. Only then are the characters touched.
+-- What a host byte or a key does. An effect is settled by the view alone: it names the characters that it moves and sends, and the
+-- marks that it sets and asks for, by their cells. Only then are the characters and the marks touched.
 use mathlib.Core.Bool.{Bool}
 use mathlib.Core.List.{List, [], _∷_, _++_}
 use Prim.Native.Nat.{ℕ}
-use lib.ListN.{set}
+use lib.ListN.{length, set, replicate}
 use Rattle.telnet.specs.Writer.{subnegotiation}
 use Rattle.edit.specs.declared.range.Shift.{Shift}
-use Rattle.edit.specs.Edits.{shifted, onPart, erased, textOf}
+use Rattle.edit.specs.Edits.{shifted, onPart, erased, filled, someMarked, textOf}
 use Rattle.rules.specs.declared.Held.{Held}
-use Rattle.rules.specs.Session.{View}
+use Rattle.words.specs.Words.{if_then_else_}
+use Rattle.rules.specs.Session.{Screen, View}
 use Rattle.rules.specs.Number.{detOption}
 use Rattle.rules.specs.Command.{Row}
 
@@ -28,18 +29,31 @@ unfoldable pub changedAll : List ℕ → List ℕ → List Change → List ℕ
 changedAll chars attrs [] = chars
 changedAll chars attrs (c ∷ cs) = changedAll (changed chars attrs c) attrs cs
 
--- What a reply is made of: bytes, or the text of a range of cells.
+-- Request (v): what becomes of the marks. They stay, all of them are cleared, or those of a range are set.
+pub data Marking : Type 0 where
+  kept : Marking
+  cleared : Marking
+  marked : ℕ → ℕ → Marking
+
+unfoldable pub marking : List ℕ → Marking → List ℕ
+marking marks kept = marks
+marking marks cleared = replicate (length marks) 0
+marking marks (marked from end) = filled from end 1 marks
+
+-- What a reply is made of: bytes, the text of a range of cells, or both where a cell of the range is marked.
 pub data Part : Type 0 where
   bytes : List ℕ → Part
   text : ℕ → ℕ → Part
+  whereMarked : List ℕ → ℕ → ℕ → Part
 
-unfoldable pub spelled : List ℕ → Part → List ℕ
-spelled chars (bytes bs) = bs
-spelled chars (text from end) = textOf from end chars
+unfoldable pub spelled : Screen → Part → List ℕ
+spelled b (bytes bs) = bs
+spelled b (text from end) = textOf from end (b .chars)
+spelled b (whereMarked bs from end) = if someMarked (b .marks) from end then bs ++ textOf from end (b .chars) else []
 
-unfoldable pub spelledAll : List ℕ → List Part → List ℕ
-spelledAll chars [] = []
-spelledAll chars (p ∷ ps) = spelled chars p ++ spelledAll chars ps
+unfoldable pub spelledAll : Screen → List Part → List ℕ
+spelledAll b [] = []
+spelledAll b (p ∷ ps) = spelled b p ++ spelledAll b ps
 
 -- IAC SB 20 .. IAC SE
 abbrev pub message : List ℕ → Part
@@ -50,18 +64,27 @@ pub record Executed : Type 0 where
   pub row : Row
   pub held : Held
 
--- The view afterwards, the changes in order, one reply, and the commands executed. The replies read the characters as they were.
+-- The view afterwards, the changes in order, what becomes of the marks, one reply, and the commands executed. The replies read the
+-- characters and the marks as they were.
 pub record Effect : Type 0 where
   pub view : View
   pub changes : List Change
+  pub marks : Marking
   pub reply : List Part
   pub executed : List Executed
 
 abbrev pub changing : View → List Change → Effect
-changing v changes = record { view = v; changes = changes; reply = []; executed = [] }
+changing v changes = record { view = v; changes = changes; marks = kept; reply = []; executed = [] }
 
 abbrev pub saying : View → List Part → Effect
-saying v reply = record { view = v; changes = []; reply = reply; executed = [] }
+saying v reply = record { view = v; changes = []; marks = kept; reply = reply; executed = [] }
 
 abbrev pub quiet : View → Effect
 quiet v = changing v []
+
+-- a change that marks the cells of a range; an effect that clears all marks
+abbrev pub writing : View → Change → ℕ → ℕ → Effect
+writing v change from end = record { view = v; changes = change ∷ []; marks = marked from end; reply = []; executed = [] }
+
+abbrev pub clearing : Effect → Effect
+clearing e = record { view = e .view; changes = e .changes; marks = cleared; reply = e .reply; executed = e .executed }

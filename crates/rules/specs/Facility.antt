@@ -1,4 +1,4 @@
--- Document 01, "Subcommands", 1 to 4, and document 02, requests (ii) and (iii): facilities. What a bit of a map stands for, by
+-- Document 01, "Subcommands", 1 to 4, and document 02, requests (ii), (iii) and (v): facilities. What a bit of a map stands for, by
 -- "Facility Functions" in section 2 of source documents 003 and 000; the maps that the terminal sends; and what is agreed, by section 5
 -- of 000.
 use mathlib.Core.Bool.{Bool, true, _&&_}
@@ -70,6 +70,9 @@ abbrev pub transmitRestOfField : Governor
 transmitRestOfField = TransmitBit (weight 0)
 
 -- class 4, formatting: its first byte, then its second
+abbrev pub modifiedFacility : Governor
+modifiedFacility = Format0Bit (weight 6)
+
 abbrev pub repeating : Governor
 repeating = Format0Bit (weight 4)
 
@@ -84,7 +87,7 @@ protectionFacility = Format1Bit (weight 5)
 
 -- The terminal's own maps. The erase map has the bits of the five partial erasures, 0 to 4 in source document 000.
 abbrev pub ownMaps : Maps
-ownMaps = record { edit = 126; erase = 31; transmit = 63; format0 = 144; format1 = 121 }
+ownMaps = record { edit = 126; erase = 31; transmit = 63; format0 = 208; format1 = 121 }
 
 -- 1 to 4 are answered with their own code and the terminal's own map
 unfoldable pub ownMap : Facility → List ℕ

@@ -1,7 +1,7 @@
--- Document 01, "Keys".
+-- Document 01, "Keys", and document 02, request (v).
 use mathlib.Core.Bool.{Bool, true, false, not, _||_}
 use mathlib.Core.List.{List, [], _∷_}
-use Prim.Native.Nat.{ℕ, _-_}
+use Prim.Native.Nat.{ℕ, _+_, _-_}
 use lib.Dec.{eqb}
 use Rattle.edit.specs.declared.range.Shift.the-variants.{Deletion}
 use Rattle.words.specs.Words.{if_then_else_, between}
@@ -15,7 +15,7 @@ use Rattle.rules.specs.declared.Key.the-variants.{Typed, Back, Tab, Send
 use Rattle.rules.specs.Session.{View, printable, cursorCell}
 use Rattle.rules.specs.Number.{fn}
 use Rattle.rules.specs.Refusal.{Test, test}
-use Rattle.rules.specs.Effect.{Effect, put, message, changing, saying, quiet}
+use Rattle.rules.specs.Effect.{Effect, put, message, saying, quiet, writing}
 use Rattle.rules.specs.Cursor.{cursorGuarded, sentTo}
 use Rattle.rules.specs.Subcommand.{transmitted, shifting}
 
@@ -76,8 +76,8 @@ keyTests v k =
 -- ---- what each does
 
 unfoldable pub pressed : View → Key → Effect
--- a character that is typed moves the cursor on to an open cell
-pressed v (Typed c) = changing (sentTo v NextOpen) (put (cursorCell v) c ∷ [])
+-- a character that is typed marks its cell and moves the cursor on to an open one
+pressed v (Typed c) = writing (sentTo v NextOpen) (put (cursorCell v) c) (cursorCell v) (cursorCell v + 1)
 -- 8: back to an open cell
 pressed v Back = quiet (sentTo v PreviousOpen)
 -- 9: on to an unprotected field

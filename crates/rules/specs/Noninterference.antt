@@ -34,15 +34,16 @@ pub record Indistinct (attrs c d : List ℕ) (a b : List Answered) (s t : State)
   pub sessions : s .session ≡ t .session
   pub attributes-first : s .screen .attrs ≡ attrs
   pub attributes-second : t .screen .attrs ≡ attrs
+  pub marks : s .screen .marks ≡ t .screen .marks
   pub alike : Alike attrs (s .screen .chars) (t .screen .chars)
   pub kept-first : Kept attrs c (s .screen .chars)
   pub kept-second : Kept attrs d (t .screen .chars)
 
--- the same calls from the same session and attribute bytes, with the characters c and with d
-abbrev pub Untold : Session → List ℕ → List ℕ → List ℕ → List Call → Type 0
-Untold s attrs c d calls =
-    let first = state s (screen c attrs) in
-    let second = state s (screen d attrs) in
+-- the same calls from the same session, attribute bytes and marks, with the characters c and with d
+abbrev pub Untold : Session → List ℕ → List ℕ → List ℕ → List ℕ → List Call → Type 0
+Untold s attrs marks c d calls =
+    let first = state s (screen c attrs marks) in
+    let second = state s (screen d attrs marks) in
     Indistinct attrs c d (answersOf first calls) (answersOf second calls) (stateAfter first calls) (stateAfter second calls)
 
 -- Noninterference. Two sessions, protection in effect, that differ only in protected characters, are given the same list of calls,
@@ -51,10 +52,10 @@ Untold s attrs c d calls =
 -- stronger sentence.
 abbrev pub Noninterference : Type 0
 Noninterference =
-    (s : Session) (attrs c d : List ℕ) (calls : List Call)
+    (s : Session) (attrs marks c d : List ℕ) (calls : List Call)
     → s .frame .suppressed ≡ false
     → allPrintable c ≡ true
     → allPrintable d ≡ true
     → Alike attrs c d
-    → noneReaches (executedOf (state s (screen c attrs)) calls) ≡ true
-    → Untold s attrs c d calls
+    → noneReaches (executedOf (state s (screen c attrs marks)) calls) ≡ true
+    → Untold s attrs marks c d calls

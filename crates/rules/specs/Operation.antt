@@ -16,7 +16,7 @@ use Rattle.rules.specs.declared.Answer.{Answer}
 use Rattle.rules.specs.Session.{Screen, State, View, cells, replyRoom, session, freshFrame, fresh, screen, state, viewOf}
 use Rattle.rules.specs.Number.{detOption}
 use Rattle.rules.specs.Refusal.{Test, isTaken, verdict, sizeTests, stateTests}
-use Rattle.rules.specs.Effect.{Effect, Executed, changedAll, spelledAll, saying, quiet}
+use Rattle.rules.specs.Effect.{Effect, Executed, changedAll, marking, spelledAll, saying, quiet}
 use Rattle.rules.specs.Telnet.{heldAfter, crAfter, negotiated, hostData}
 use Rattle.rules.specs.Pad.{padAfter, response, takesKey, lineTests, padTyped, typedTo, passes}
 use Rattle.rules.specs.Subcommand.{subcommand}
@@ -35,8 +35,10 @@ abbrev pub applied : State → Reader → Pad → Effect → Ran
 applied s r p e =
     let b = s .screen in
     record {
-      state = state (session (e .view .frame) r p) (screen (changedAll (b .chars) (b .attrs) (e .changes)) (e .view .attrs));
-      replies = spelledAll (b .chars) (e .reply);
+      state =
+          state (session (e .view .frame) r p)
+          (screen (changedAll (b .chars) (b .attrs) (e .changes)) (e .view .attrs) (marking (b .marks) (e .marks)));
+      replies = spelledAll b (e .reply);
       executed = e .executed;
     }
 
@@ -112,7 +114,7 @@ takenOf s free (b ∷ bs) =
     if leb (replyRoom (s .session .frame)) free then suc rest else 0
 
 abbrev pub hostRefusal : State → List ℕ → Refusal
-hostRefusal s reply = verdict (sizeTests (s .session .frame) (s .screen) ++ stateTests (s .session) (s .screen .chars) reply)
+hostRefusal s reply = verdict (sizeTests (s .session .frame) (s .screen) ++ stateTests (s .session) (s .screen) reply)
 
 abbrev pub hostRan : State → List ℕ → List ℕ → Ran
 hostRan s reply input = running s (take (takenOf s (length reply) input) input)
@@ -140,7 +142,7 @@ padPressed s k = let p = s .session .pad in if takesKey (s .session .frame) k th
 abbrev pub keyRefusal : State → List ℕ → ℕ → Refusal
 keyRefusal s reply k =
     verdict
-    (sizeTests (s .session .frame) (s .screen) ++ (stateTests (s .session) (s .screen .chars) reply ++ pressTests s k))
+    (sizeTests (s .session .frame) (s .screen) ++ (stateTests (s .session) (s .screen) reply ++ pressTests s k))
 
 -- the reader stays where it is
 abbrev pub keyRan : State → ℕ → Ran
@@ -151,9 +153,9 @@ oneKey s reply k = unless (keyRefusal s reply k) s reply (answering 1 (keyRan s 
 
 -- ---- open
 
--- spaces, and attribute bytes 0
+-- spaces, attribute bytes 0, no mark
 abbrev pub blank : ℕ → Screen
-blank n = screen (replicate n 32) (replicate n 0)
+blank n = screen (replicate n 32) (replicate n 0) (replicate n 0)
 
 -- Open takes no session and lends no reply buffer. Refused, it returns a fresh session with M and N 0.
 unfoldable pub opened : ℕ → ℕ → Screen → Outcome

@@ -20,8 +20,9 @@ use Rattle.rules.specs.declared.Refusal.the-variants.{
   DetOff,
   NoMeaning,
   LineFull,
+  BadMark,
 }
-use Rattle.rules.specs.Session.{Screen, sizesOk, cells, replyRoom, allPrintable, sessionOk}
+use Rattle.rules.specs.Session.{Screen, sizesOk, cells, replyRoom, allPrintable, allMarks, sessionOk}
 
 -- the table's numbers; 0 where the call is taken
 abbrev pub numberOf : Refusal → ℕ
@@ -36,6 +37,7 @@ numberOf WrongClass = 7
 numberOf DetOff = 8
 numberOf NoMeaning = 9
 numberOf LineFull = 10
+numberOf BadMark = 11
 
 abbrev pub isTaken : Refusal → Bool
 isTaken r = eqb (numberOf r) 0
@@ -57,13 +59,16 @@ verdict (t ∷ ts) = if t .passes then verdict ts else t .otherwise
 unfoldable pub sizeTests : Frame → Screen → List Test
 sizeTests f b =
     test (sizesOk (f .width) (f .height)) Size
-    ∷ test (eqb (length (b .chars)) (cells f) && eqb (length (b .attrs)) (cells f)) BufferLength
+    ∷ test
+    (eqb (length (b .chars)) (cells f) && (eqb (length (b .attrs)) (cells f) && eqb (length (b .marks)) (cells f)))
+    BufferLength
     ∷ []
 
--- 3, 4 and 5, of host bytes and of a key, after those
-unfoldable pub stateTests : Session → List ℕ → List ℕ → List Test
-stateTests s chars reply =
-    test (allPrintable chars) BadCharacter
+-- 3, 4, 11 and 5, of host bytes and of a key, after those
+unfoldable pub stateTests : Session → Screen → List ℕ → List Test
+stateTests s b reply =
+    test (allPrintable (b .chars)) BadCharacter
     ∷ test (sessionOk s) BadSession
+    ∷ test (allMarks (b .marks)) BadMark
     ∷ test (leb (replyRoom (s .frame)) (length reply)) ReplyRoom
     ∷ []

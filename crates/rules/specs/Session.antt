@@ -1,8 +1,8 @@
--- Document 01, "Sizes and lent memory", and document 02, request (i): the session, the screen buffers, and what a decision may see
--- of them.
+-- Document 01, "Sizes and lent memory", and document 02, requests (i) and (v): the session, the screen buffers, and what a decision may
+-- see of them.
 use mathlib.Core.Bool.{Bool, true, false, not, _&&_, _||_}
 use mathlib.Core.List.{List, [], _∷_}
-use Prim.Native.Nat.{ℕ, _+_, _*_}
+use Prim.Native.Nat.{ℕ, _*_}
 use lib.Dec.{leb}
 use lib.ListN.{length}
 use Rattle.telnet.specs.declared.Phase.the-variants.{Rest}
@@ -30,9 +30,9 @@ sizesOk m n = between 1 132 m && between 1 64 n
 abbrev pub cells : Frame → ℕ
 cells f = f .height * f .width
 
--- the longest that one reply can be
+-- the reply room: the longest that one reply can be (request (v))
 abbrev pub replyRoom : Frame → ℕ
-replyRoom f = 7 * cells f + 2
+replyRoom f = 9 * cells f
 
 -- what a cell may hold
 abbrev pub printable : ℕ → Bool
@@ -41,6 +41,11 @@ printable c = between 32 126 c
 unfoldable pub allPrintable : List ℕ → Bool
 allPrintable [] = true
 allPrintable (c ∷ cs) = printable c && allPrintable cs
+
+-- request (v): a mark is 0 or 1
+unfoldable pub allMarks : List ℕ → Bool
+allMarks [] = true
+allMarks (m ∷ ms) = leb m 1 && allMarks ms
 
 -- ---- the session
 
@@ -127,9 +132,10 @@ lineTakesKeys f = f .x3 && not (f .det)
 pub record Screen : Type 0 where
   pub chars : List ℕ
   pub attrs : List ℕ
+  pub marks : List ℕ
 
-abbrev pub screen : List ℕ → List ℕ → Screen
-screen chars attrs = record { chars = chars; attrs = attrs }
+abbrev pub screen : List ℕ → List ℕ → List ℕ → Screen
+screen chars attrs marks = record { chars = chars; attrs = attrs; marks = marks }
 
 -- all that there is before a call and after it, but for the reply buffer
 pub record State : Type 0 where
@@ -139,7 +145,7 @@ pub record State : Type 0 where
 abbrev pub state : Session → Screen → State
 state s b = record { session = s; screen = b }
 
--- ---- what a decision may see: the frame and the attribute bytes; no character, and nothing of the reader and the PAD
+-- ---- what a decision may see: the frame and the attribute bytes; no character and no mark, and nothing of the reader and the PAD
 
 pub record View : Type 0 where
   pub frame : Frame

@@ -1,4 +1,4 @@
--- Document 01, "Subcommands", and document 02, requests (ii) and (iii): what each does.
+-- Document 01, "Subcommands", and document 02, requests (ii), (iii) and (v): what each does.
 use mathlib.Core.Bool.{Bool, true, false}
 use mathlib.Core.List.{List, [], _∷_}
 use Prim.Native.Nat.{ℕ, zero, suc, _+_}
@@ -7,13 +7,14 @@ use lib.ListN.{replicate}
 use Rattle.telnet.specs.declared.Verb.{Verb}
 use Rattle.telnet.specs.declared.Verb.the-variants.{Will, Wont, Do, Dont}
 use Rattle.telnet.specs.Reader.{verbCode}
+use Rattle.telnet.specs.Writer.{subnegotiation}
 use Rattle.screen.specs.declared.cell.Place.{Place}
 use Rattle.edit.specs.declared.range.Shift.{Shift}
 use Rattle.words.specs.Words.{if_then_else_}
 use Rattle.screen.specs.Cells.{placeOf, lineStart, lineEnd}
 use Rattle.screen.specs.Attributes.{guardedAt}
 use Rattle.screen.specs.Fields.{someFrom, opensAt, fieldStart, fieldEnd, spanEnd}
-use Rattle.edit.specs.Edits.{formatted}
+use Rattle.edit.specs.Edits.{filled}
 use Rattle.rules.specs.declared.Held.{Held}
 use Rattle.rules.specs.declared.Destination.the-variants.{Corner, LineStart, NextLine, FirstField}
 use Rattle.rules.specs.declared.Area.{Area}
@@ -37,6 +38,7 @@ use Rattle.rules.specs.declared.Command.the-variants.{
   CharShift,
   ReadCursor,
   Transmit,
+  TransmitModified,
   Erase,
   FormatData,
   Repeat,
@@ -55,18 +57,35 @@ use Rattle.rules.specs.declared.Fault.the-variants.{
   BadMap,
 }
 use Rattle.rules.specs.Session.{View, withReceived, cursorCell, screenEnd, withCursor, withModes, withFrame, withAttrs}
-use Rattle.rules.specs.Number.{cursorPosition, dataTransmit, suppressProtection, fieldSeparator, error, faultNumber}
+use Rattle.rules.specs.Number.{detOption, cursorPosition, dataTransmit, suppressProtection, fieldSeparator, error, faultNumber}
 use Rattle.rules.specs.Facility.{ownMap, receiving}
 use Rattle.rules.specs.Command.{Row, Listed, listed, unlisted, rowOf, codeIn, parameter, placeIn, formatCount, faultOf}
-use Rattle.rules.specs.Effect.{Effect, Part, text, erase, shift, message, changing, saying, quiet}
+use Rattle.rules.specs.Effect.{
+  Effect,
+  Part,
+  bytes,
+  text,
+  whereMarked,
+  erase,
+  shift,
+  message,
+  changing,
+  saying,
+  quiet,
+  writing,
+  clearing,
+}
 use Rattle.rules.specs.Cursor.{cursorGuarded, limited, skippedToLine, skippedToChar, destination, sentTo}
 use Rattle.rules.specs.Telnet.{hostCharacters}
 
 -- ---- transmissions
 
 -- every transmission starts with 28 and the place of the first cell it sends
+abbrev pub prefaceBytes : Place → List ℕ
+prefaceBytes p = subnegotiation detOption (dataTransmit ∷ p .x .0 ∷ p .y .0 ∷ [])
+
 abbrev pub preface : Place → Part
-preface p = message (dataTransmit ∷ p .x .0 ∷ p .y .0 ∷ [])
+preface p = bytes (prefaceBytes p)
 
 -- 21: the text of every unprotected field in order, of the n cells from i on, 39 before each
 unfoldable pub fieldTexts : List ℕ → ℕ → ℕ → List Part
@@ -109,14 +128,25 @@ transmitted v RestOfLine =
 transmitted v WholeField = fieldFrom v (fieldStart (v .attrs) (cursorCell v))
 transmitted v RestOfField = fieldFrom v (cursorCell v)
 
+-- 27: every unprotected field of the n cells from i on that has a marked cell, each after a preface of its own
+unfoldable pub modifiedTexts : ℕ → List ℕ → ℕ → ℕ → List Part
+modifiedTexts width attrs i zero = []
+modifiedTexts width attrs i (suc n) =
+    let rest = modifiedTexts width attrs (suc i) n in
+    if opensAt attrs i then whereMarked (prefaceBytes (placeOf width i)) i (fieldEnd attrs i) ∷ rest else rest
+
+-- the cursor goes where 21 leaves it, and all marks are cleared
+abbrev pub transmittedModified : View → Effect
+transmittedModified v = clearing (saying (sentTo v FirstField) (modifiedTexts (v .frame .width) (v .attrs) 0 (screenEnd v)))
+
 -- ---- erasures
 
 unfoldable pub erasure : View → Area → Effect
--- 29: a blank screen with nothing protected, and the cursor in its corner
+-- 29: a blank screen with nothing protected and nothing marked, and the cursor in its corner
 erasure v WholeScreen =
-    changing (withAttrs (sentTo v Corner) (replicate (screenEnd v) 0)) (erase true 0 (screenEnd v) ∷ [])
--- 35: the open cells of the form are blanked; the cursor goes where 21 leaves it
-erasure v Unprotected = changing (sentTo v FirstField) (erase false 0 (screenEnd v) ∷ [])
+    clearing (changing (withAttrs (sentTo v Corner) (replicate (screenEnd v) 0)) (erase true 0 (screenEnd v) ∷ []))
+-- 35: the open cells of the form are blanked, and all marks cleared; the cursor goes where 21 leaves it
+erasure v Unprotected = clearing (changing (sentTo v FirstField) (erase false 0 (screenEnd v) ∷ []))
 -- 30 to 34: the line, the field, and the rests of screen, line and field are blanked where they are not guarded
 erasure v WholeLine =
     let f = v .frame in
@@ -135,9 +165,13 @@ abbrev pub cursorSpanEnd : View → ℕ
 cursorSpanEnd v =
     let f = v .frame in spanEnd (f .suppressed) (v .attrs) (cursorCell v) (lineEnd (f .width) (f .cursor .y))
 
+-- a shift marks every cell of its range, changed or not
+abbrev pub shiftingCells : View → Shift → ℕ → ℕ → ℕ → Effect
+shiftingCells v s from end by = writing v (shift s from end by) from end
+
 -- 15 and 16: nothing on a guarded cell, else the edit span shifted by one
 abbrev pub shifting : View → Shift → Effect
-shifting v s = changing v (if cursorGuarded v then [] else shift s (cursorCell v) (cursorSpanEnd v) 1 ∷ [])
+shifting v s = if cursorGuarded v then quiet v else shiftingCells v s (cursorCell v) (cursorSpanEnd v) 1
 
 -- the cells from the start of the cursor's line to the end of the screen: the first, and whether any is guarded
 abbrev pub cursorLineStart : View → ℕ
@@ -148,7 +182,7 @@ linesGuarded v = someFrom (guardedAt (v .frame .suppressed) (v .attrs)) (v .attr
 
 -- 13 and 14: nothing where one of them is guarded, else all of them shifted by a line
 abbrev pub lineShifting : View → Shift → Effect
-lineShifting v s = changing v (if linesGuarded v then [] else shift s (cursorLineStart v) (screenEnd v) (v .frame .width) ∷ [])
+lineShifting v s = if linesGuarded v then quiet v else shiftingCells v s (cursorLineStart v) (screenEnd v) (v .frame .width)
 
 -- 38: suppress, end it, and the two questions, answered as in negotiation
 abbrev pub suppressionAnswer : Verb → Part
@@ -184,11 +218,13 @@ obeyed v (CharShift s) h = shifting v s
 obeyed v ReadCursor h = saying v (message (cursorPosition ∷ v .frame .cursor .x .0 ∷ v .frame .cursor .y .0 ∷ []) ∷ [])
 -- 20 to 26
 obeyed v (Transmit area) h = transmitted v area
+-- 27
+obeyed v TransmitModified h = transmittedModified v
 -- 29 to 35
 obeyed v (Erase area) h = erasure v area
 -- 36: attribute bytes only, from the cursor on
 obeyed v FormatData h =
-    quiet (withAttrs v (formatted (cursorCell v) (cursorCell v + formatCount h) (parameter h 0) (v .attrs)))
+    quiet (withAttrs v (filled (cursorCell v) (cursorCell v + formatCount h) (parameter h 0) (v .attrs)))
 -- 37: as if the host had sent the character so often
 obeyed v Repeat h = hostCharacters (parameter h 0) v (parameter h 1)
 -- 38
@@ -206,7 +242,13 @@ erring v code fault = saying v (message (error ∷ code ∷ faultNumber fault �
 unfoldable pub judged : View → Row → Held → Fault → Effect
 judged v r h NoFault =
     let e = obeyed v (r .command) h in
-    record { view = e .view; changes = e .changes; reply = e .reply; executed = record { row = r; held = h } ∷ [] }
+    record {
+      view = e .view;
+      changes = e .changes;
+      marks = e .marks;
+      reply = e .reply;
+      executed = record { row = r; held = h } ∷ [];
+    }
 judged v r h OffScreen = erring (withCursor v (limited (v .frame) (placeIn h))) (codeIn h) OffScreen
 judged v r h NotAgreed = erring v (codeIn h) NotAgreed
 judged v r h UnknownCode = erring v (codeIn h) UnknownCode

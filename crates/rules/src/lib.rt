@@ -75,6 +75,7 @@ pub enum Refusal {
     DetOff,
     NoMeaning,
     LineFull,
+    BadMark,
 }
 
 // What each operation answers.
@@ -138,6 +139,7 @@ pub enum Command {
     CharShift(Shift),
     ReadCursor,
     Transmit(Area),
+    TransmitModified,
     Erase(Area),
     FormatData,
     Repeat,

@@ -3,7 +3,7 @@
 use libc::STDERR_FILENO;
 use libc::STDIN_FILENO;
 use libc::STDOUT_FILENO;
-ghost use Prim.Native.Nat.{_≤_};
+ghost use Prim.Native.Nat.{_<_, _≤_};
 ghost use lib.ListN.{length};
 use rules::Answer;
 use rules::Session;
@@ -43,11 +43,12 @@ fn sum(a: u64, b: u64) -> u64 {
     if a <= u64::MAX - b { a + b } else { u64::MAX }
 }
 
-// Where `taken` bytes from `at` lead: no further than the end.
+// Where `taken` bytes from `at` lead: no further than the end, and there too where a call takes none, since the next would not.
 fn past(at: usize, taken: usize, end: usize) -> usize
-    ensures { λ r. ⌜ r ≤ end ⌝ }
+    requires { ⌜ at < end ⌝ }
+    ensures { λ r. ⌜ (at < r) × (r ≤ end) ⌝ }
 {
-    if end <= at {
+    if taken == 0 {
         return end;
     }
     if taken < end - at { at + taken } else { end }
@@ -60,11 +61,12 @@ fn host(
     at: usize,
     chars: &mut [u8],
     attrs: &mut [u8],
+    marks: &mut [u8],
     reply: &mut [u8],
 ) -> Answer
     requires { ⌜ at ≤ length (now input) ⌝ }
 {
-    det::operation::host_bytes(session, &input[at..], chars, attrs, reply)
+    det::operation::host_bytes(session, &input[at..], chars, attrs, marks, reply)
 }
 
 // One call, and where the next begins.
@@ -74,13 +76,14 @@ fn call(
     at: usize,
     chars: &mut [u8],
     attrs: &mut [u8],
+    marks: &mut [u8],
     reply: &mut [u8],
 ) -> Step
-    requires { ⌜ at ≤ length (now input) ⌝ }
-    ensures { λ r. ⌜ r .at ≤ length (now (input .entry)) ⌝ }
+    requires { ⌜ at < length (now input) ⌝ }
+    ensures { λ r. ⌜ (at < r .at) × (r .at ≤ length (now (input .entry))) ⌝ }
 {
     let session = run.session;
-    let answer = host(session, input, at, chars, attrs, reply);
+    let answer = host(session, input, at, chars, attrs, marks, reply);
     let after = answer.session;
     let replies = sum(run.replies, answer.written as u64);
     Step {
@@ -93,23 +96,33 @@ fn call(
 }
 
 // Hands on all of the input. A call takes bytes while its reply buffer has room, and the next takes the rest.
-fn hand_on(run: Run, input: &[u8], chars: &mut [u8], attrs: &mut [u8], reply: &mut [u8]) -> Run {
+fn hand_on(
+    run: Run,
+    input: &[u8],
+    chars: &mut [u8],
+    attrs: &mut [u8],
+    marks: &mut [u8],
+    reply: &mut [u8],
+) -> Run {
     let mut run = run;
     let mut at = 0;
     while at < input.len() {
-        let next = call(run, input, at, chars, attrs, reply);
+        let next = call(run, input, at, chars, attrs, marks, reply);
         let after = next.run;
         run = after;
-        if next.at <= at {
-            break;
-        }
         at = next.at;
     }
     run
 }
 
 // Reads once, and hands on what came.
-fn read_some(run: Run, chars: &mut [u8], attrs: &mut [u8], reply: &mut [u8]) -> Turn {
+fn read_some(
+    run: Run,
+    chars: &mut [u8],
+    attrs: &mut [u8],
+    marks: &mut [u8],
+    reply: &mut [u8],
+) -> Turn {
     let mut input = io::buffer();
     let got = libc::read(STDIN_FILENO, &mut input);
     if got < 0 {
@@ -125,7 +138,7 @@ fn read_some(run: Run, chars: &mut [u8], attrs: &mut [u8], reply: &mut [u8]) -> 
         };
     }
     let n = io::count(got, &input);
-    let after = hand_on(run, &input[..n], chars, attrs, reply);
+    let after = hand_on(run, &input[..n], chars, attrs, marks, reply);
     Turn {
         run: after,
         input: Input::Open,
@@ -133,11 +146,17 @@ fn read_some(run: Run, chars: &mut [u8], attrs: &mut [u8], reply: &mut [u8]) -> 
 }
 
 // Reads to the end. Nothing says that the input ends, so the turns count down from a number that no run uses up.
-fn read_all(run: Run, chars: &mut [u8], attrs: &mut [u8], reply: &mut [u8]) -> Turn {
+fn read_all(
+    run: Run,
+    chars: &mut [u8],
+    attrs: &mut [u8],
+    marks: &mut [u8],
+    reply: &mut [u8],
+) -> Turn {
     let mut run = run;
     let mut turns = u64::MAX;
     while turns > 0 {
-        let turn = read_some(run, chars, attrs, reply);
+        let turn = read_some(run, chars, attrs, marks, reply);
         let after = turn.run;
         run = after;
         let input = turn.input;
@@ -193,14 +212,15 @@ fn print_all(run: Run, chars: &[u8]) -> bool {
 fn main() {
     let mut chars = [0u8; 16];
     let mut attrs = [0u8; 16];
+    let mut marks = [0u8; 16];
     let mut reply = io::buffer();
-    let opened = admit::open::open(WIDTH, HEIGHT, &mut chars, &mut attrs);
+    let opened = admit::open::open(WIDTH, HEIGHT, &mut chars, &mut attrs, &mut marks);
     let session = opened.session;
     let run = Run {
         session: session,
         replies: 0,
     };
-    let turn = read_all(run, &mut chars, &mut attrs, &mut reply);
+    let turn = read_all(run, &mut chars, &mut attrs, &mut marks, &mut reply);
     let input = turn.input;
     if let Input::Failed = input {
         io::write_all(STDERR_FILENO, b"show: standard input cannot be read\n");

@@ -16,7 +16,7 @@ use Rattle.edit.specs.Edits.{lies, Copied}
 use Rattle.words.proofs.Laws.{true-or-false, less-or-not, both, getD-within}
 use Rattle.edit.proofs.EditLaws.{copied-whole}
 use Rattle.rules.specs.declared.Frame.{Frame}
-use Rattle.rules.specs.Session.{View, printable, placed, screen, view}
+use Rattle.rules.specs.Session.{View, printable, placed, view}
 use Rattle.rules.specs.Cursor.{cursorGuarded, destination, nextCell}
 use Rattle.rules.specs.Effect.{changed, changedAll}
 use Rattle.rules.specs.Telnet.{hostCharacter}
@@ -75,7 +75,7 @@ free-each suppressed {attrs} {cell} {n} {k} p l h =
 -- on a cell that is not guarded and not its line's last
 character : (f : Frame) {attrs chars : List ℕ} (b : ℕ)
     → guardedAt (f .suppressed) attrs (cellOf (f .width) (f .cursor)) ≡ false → f .cursor .x .0 + 1 < f .width
-    → Changes (hostCharacter (view f attrs) b) (screen chars attrs) (placed f (place (f .cursor .x .0 + 1) (f .cursor .y .0)))
+    → Changes (hostCharacter (view f attrs) b) chars attrs (placed f (place (f .cursor .x .0 + 1) (f .cursor .y .0)))
     (set chars (cellOf (f .width) (f .cursor)) b)
 unfolding hostCharacter destination nextCell changed changedAll
 character f b g l = rw (g, lt-ltb _ _ l) (record { frame = refl; characters = refl })
@@ -145,7 +145,7 @@ module _ {joins cr : Bool} {bytes : List ℕ} {f₀ : Frame} {chars₀ attrs : L
   -- the last of some, where the cursor stays
   last : (k : ℕ) → Each printable bytes at (suc k) → at + suc k ≤ length bytes
       → (0 < k → (b : ℕ) → (hostCharacter (view f attrs) b) .view ≡ view f attrs) → {f′ : Frame} {chars′ : List ℕ}
-      → Changes (hostCharacter (view f attrs) (getD bytes (at + k) 0)) (screen chars attrs) f′ chars′
+      → Changes (hostCharacter (view f attrs) (getD bytes (at + k) 0)) chars attrs f′ chars′
       → Texted attrs joins cr bytes f₀ chars₀ (at + suc k) f′ chars′
   last zero p w s d =
       let a : at + 1 ≡ at + 0 + 1 = omega arith in
@@ -183,7 +183,7 @@ module _ {attrs bytes : List ℕ} {from at : ℕ} {g : Frame} {gs : List ℕ} {f
   step-copied r z q d e = record { on = λ joins cr f₀ chars₀ t. copied (s .on joins cr f₀ chars₀ t) r rest (omega arith) z q d e }
 
   pub step-last : {next : ℕ} → LastCounts (view f attrs) at end next → {f′ : Frame} {chars′ : List ℕ}
-      → Changes (hostCharacter (view f attrs) (getD bytes (next - 1) 0)) (screen chars attrs) f′ chars′
+      → Changes (hostCharacter (view f attrs) (getD bytes (next - 1) 0)) chars attrs f′ chars′
       → TextStep attrs bytes from g gs next f′ chars′
   step-last {next} l d =
       let k = next - 1 - at in

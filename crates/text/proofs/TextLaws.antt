@@ -10,8 +10,8 @@ use lib.Seq.{take-suc, take-all}
 use Rattle.words.proofs.Laws.{either, true-or-false}
 use Rattle.screen.specs.declared.cell.Place.{Place}
 use Rattle.rules.specs.declared.Frame.{Frame}
-use Rattle.rules.specs.Session.{View, printable, placed, screen, view, withCursor}
-use Rattle.rules.specs.Effect.{Effect, changedAll, changing, quiet}
+use Rattle.rules.specs.Session.{View, printable, placed, view, withCursor}
+use Rattle.rules.specs.Effect.{Effect, changedAll, kept, changing, quiet}
 use Rattle.rules.specs.Cursor.{cursorGuarded}
 use Rattle.rules.specs.Telnet.{hostCharacter, hostData, hostText}
 use Rattle.rules.proofs.Characters.{changed-append}
@@ -60,6 +60,12 @@ text-moves v (x ∷ xs) =
 pub text-keeps : (v : View) (xs : List ℕ) → (hostText v xs) .view .attrs ≡ v .attrs
 text-keeps v xs = ap (λ (w : View). w .attrs) (text-moves v xs)
 
+-- it marks nothing
+pub text-marks : (v : View) (xs : List ℕ) → (hostText v xs) .marks ≡ kept
+unfolding hostText
+text-marks v [] = refl
+text-marks v (x ∷ xs) = refl
+
 -- one byte after the others
 text-next : (v : View) (xs : List ℕ) (b : ℕ) → let e = hostText v xs in let one = hostData (e .view) b in
     hostText v (xs ++ (b ∷ [])) ≡ changing (one .view) (e .changes ++ one .changes)
@@ -69,9 +75,9 @@ text-next v (x ∷ xs) b = rw (text-next ((hostData v x) .view) xs b, append-ass
 
 -- so what some bytes do, and then one more
 pub text-more : {attrs : List ℕ} (xs : List ℕ) (f₀ : Frame) {chars₀ : List ℕ} {f : Frame} {chars : List ℕ}
-    → Changes (hostText (view f₀ attrs) xs) (screen chars₀ attrs) f chars → (b : ℕ) {f′ : Frame} {chars′ : List ℕ}
-    → Changes (hostData (view f attrs) b) (screen chars attrs) f′ chars′
-    → Changes (hostText (view f₀ attrs) (xs ++ (b ∷ []))) (screen chars₀ attrs) f′ chars′
+    → Changes (hostText (view f₀ attrs) xs) chars₀ attrs f chars → (b : ℕ) {f′ : Frame} {chars′ : List ℕ}
+    → Changes (hostData (view f attrs) b) chars attrs f′ chars′
+    → Changes (hostText (view f₀ attrs) (xs ++ (b ∷ []))) chars₀ attrs f′ chars′
 text-more {attrs} xs f₀ {f = f} r b one =
     let after : view f attrs ≡ (hostText (view f₀ attrs) xs) .view = λ i. view ((r .frame) i) (sym (text-keeps (view f₀ attrs) xs) i) in
     rw text-next (record {
@@ -88,7 +94,7 @@ module _ {attrs : List ℕ} {joins cr : Bool} {bytes : List ℕ} {f₀ : Frame} 
     (r : Texted attrs joins cr bytes f₀ chars₀ at f chars) where
   -- a byte more, which is obeyed
   pub texted-more : {f′ : Frame} {chars′ : List ℕ} → at < length bytes → passedAt joins cr bytes at ≡ false
-      → Changes (hostData (view f attrs) (getD bytes at 0)) (screen chars attrs) f′ chars′
+      → Changes (hostData (view f attrs) (getD bytes at 0)) chars attrs f′ chars′
       → Texted attrs joins cr bytes f₀ chars₀ (at + 1) f′ chars′
   texted-more h p one = record {
     done = rw (add-one, take-suc bytes at 0 h, obeyed-next, p)
@@ -101,7 +107,7 @@ module _ {attrs : List ℕ} {joins cr : Bool} {bytes : List ℕ} {f₀ : Frame} 
 
   -- a character more
   pub texted-character : {f′ : Frame} {chars′ : List ℕ} → at < length bytes → printable (getD bytes at 0) ≡ true
-      → Changes (hostCharacter (view f attrs) (getD bytes at 0)) (screen chars attrs) f′ chars′
+      → Changes (hostCharacter (view f attrs) (getD bytes at 0)) chars attrs f′ chars′
       → Texted attrs joins cr bytes f₀ chars₀ (at + 1) f′ chars′
   texted-character h p one =
       texted-more h (not-passed joins cr bytes at (printed-no-lf (getD bytes at 0) p)) (rw (printed (view f attrs) (getD bytes at 0) p) one)
@@ -116,5 +122,5 @@ module _ {attrs : List ℕ} {joins cr : Bool} {bytes : List ℕ} {f₀ : Frame} 
       (λ t. texted-more h t (unprinted (view f attrs) (getD bytes at 0) n (rw t at e)))
 
   -- all of them
-  pub texted-all : length bytes ≤ at → Changes (hostText (view f₀ attrs) (obeyedBytes joins cr bytes)) (screen chars₀ attrs) f chars
+  pub texted-all : length bytes ≤ at → Changes (hostText (view f₀ attrs) (obeyedBytes joins cr bytes)) chars₀ attrs f chars
   texted-all h = rw (take-all at bytes h) at (r .done)

@@ -7,7 +7,7 @@ use lib.ListN.{set}
 use types.Run.{OneOf}
 use denote.Enum.Declared.{tagOf}
 use Rattle.rules.specs.declared.Frame.{Frame}
-use Rattle.rules.specs.Session.{View, printable, placed, screen, view, cursorCell, withCursor}
+use Rattle.rules.specs.Session.{View, printable, placed, view, cursorCell, withCursor}
 use Rattle.rules.specs.Effect.{put, changed, changedAll, changing, quiet}
 use Rattle.rules.specs.Telnet.{hostCharacter, hostData}
 use Rattle.decide.specs.declared.text.Writer.the-variants.{Host}
@@ -26,18 +26,18 @@ module _ {v : View} {c : ℕ} {w : Writing} (one : Writes v Host c w) where
 
   -- not written, it changes nothing
   pub unwritten : {chars : List ℕ} → OneOf (1 ∷ 2 ∷ 3 ∷ []) (tagOf the-type (w .fate))
-      → Changes (hostCharacter v c) (screen chars (v .attrs)) (v .frame) chars
+      → Changes (hostCharacter v c) chars (v .attrs) (v .frame) chars
   unfolding changedAll
   unwritten h = rw (host-by-fate, not-written (w .fate) h) (record { frame = refl; characters = refl })
 
   -- written, it stands in the cursor's cell
   pub written : {cell : ℕ} {chars chars′ : List ℕ} → w .fate ≡ Written → cell ≡ cursorCell v → chars′ ≡ set chars cell c
-      → Changes (hostCharacter v c) (screen chars (v .attrs)) (placed (v .frame) (w .cursor)) chars′
+      → Changes (hostCharacter v c) chars (v .attrs) (placed (v .frame) (w .cursor)) chars′
   unfolding ifWritten afterFate changed changedAll
   written e p q = rw (host-by-fate, one .cursor, e) (record { frame = refl; characters = q ∙ rw p })
 
 -- host data that is no character moves the cursor at most
 pub unprinted : (v : View) {f : Frame} {chars : List ℕ} (b : ℕ) → printable b ≡ false → controlOf v b ≡ quiet (view f (v .attrs))
-    → Changes (hostData v b) (screen chars (v .attrs)) f chars
+    → Changes (hostData v b) chars (v .attrs) f chars
 unfolding changedAll
 unprinted v b e q = rw (control-is _ _ e ∙ q) (record { frame = refl; characters = refl })

@@ -6,13 +6,12 @@ use Prim.Native.Nat.{ℕ}
 use lib.Dec.{eqb}
 use Rattle.words.specs.Words.{if_then_else_}
 use Rattle.rules.specs.declared.Frame.{Frame}
-use Rattle.rules.specs.Session.{Screen}
 use Rattle.rules.specs.Effect.{Effect, changedAll}
 
 -- the frame and the characters afterwards
-pub record Changes (e : Effect) (b : Screen) (f : Frame) (chars : List ℕ) : Type 0 where
+pub record Changes (e : Effect) (chars attrs : List ℕ) (f : Frame) (chars′ : List ℕ) : Type 0 where
   pub frame : f ≡ e .view .frame
-  pub characters : chars ≡ changedAll (b .chars) (b .attrs) (e .changes)
+  pub characters : chars′ ≡ changedAll chars attrs (e .changes)
 
 -- the bytes of data that are obeyed while CR LF is printed as CR: an LF right after a CR is passed over
 unfoldable pub joined : Bool → List ℕ → List ℕ

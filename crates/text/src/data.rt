@@ -8,7 +8,7 @@ ghost use Rattle.screen.specs.Cells.{place};
 ghost use Rattle.rules.specs.Session.{printable, placed, view};
 ghost use Rattle.rules.specs.Effect.{quiet};
 ghost use Rattle.rules.specs.Telnet.{hostCharacter, hostData, hostText};
-ghost use Rattle.command.specs.Frame.{lent, seen};
+ghost use Rattle.command.specs.Frame.{seen};
 ghost use Rattle.text.specs.Text.{Changes, obeyedBytes};
 ghost use Rattle.text.specs.inner.Text.{controlAt, TextStep};
 ghost use Rattle.text.specs.inner.Plain.{Each};
@@ -40,7 +40,7 @@ pub fn set_cell(chars: &mut [u8], cell: usize, byte: u8)
 // One character from the host: the cursor after it.
 pub fn put_character(frame: Frame, byte: u8, chars: &mut [u8], attrs: &[u8]) -> Place
     ensures { λ r. ⌜ Changes (hostCharacter (seen frame (attrs .entry)) byte)
-        (lent (chars .entry) (attrs .entry)) (placed frame r) (now (chars .exit)) ⌝ }
+        (now (chars .entry)) (now (attrs .entry)) (placed frame r) (now (chars .exit)) ⌝ }
 {
     let writing = write_host(frame, attrs, byte);
     let fate = writing.fate;
@@ -54,7 +54,7 @@ pub fn put_character(frame: Frame, byte: u8, chars: &mut [u8], attrs: &[u8]) -> 
 // One byte of host data: the cursor after it.
 pub fn take_data(frame: Frame, byte: u8, chars: &mut [u8], attrs: &[u8]) -> Place
     ensures { λ r. ⌜ Changes (hostData (seen frame (attrs .entry)) byte)
-        (lent (chars .entry) (attrs .entry)) (placed frame r) (now (chars .exit)) ⌝ }
+        (now (chars .entry)) (now (attrs .entry)) (placed frame r) (now (chars .exit)) ⌝ }
 {
     let text = is_printable(byte);
     if text {
@@ -134,7 +134,7 @@ pub fn host_text(
     attrs: &[u8],
 ) -> Frame
     ensures { λ r. ⌜ Changes (hostText (seen frame (attrs .entry)) (obeyedBytes joins cr (now (bytes .entry))))
-        (lent (chars .entry) (attrs .entry)) r (now (chars .exit)) ⌝ }
+        (now (chars .entry)) (now (attrs .entry)) r (now (chars .exit)) ⌝ }
 {
     let mut cursor = frame.cursor;
     let mut at = 0;

@@ -24,6 +24,7 @@ pub struct Lent {
     pub session: Vec<u8>,
     pub chars: Vec<u8>,
     pub attrs: Vec<u8>,
+    pub marks: Vec<u8>,
     pub reply: Vec<u8>,
 }
 
@@ -44,6 +45,7 @@ impl Lent {
             session: fresh(width, height),
             chars: vec![b' '; columns * lines],
             attrs: vec![0; columns * lines],
+            marks: vec![0; columns * lines],
             reply: vec![LENT; reply_room(columns, lines)],
         }
     }
@@ -68,20 +70,22 @@ impl Lent {
     fn raw_call(&mut self, call: Call) -> Answer {
         let (mut taken, mut written) = (COUNT, COUNT);
         let (session, chars, attrs) = (&mut self.session, &mut self.chars, &mut self.attrs);
-        let (reply, t, w) = (&mut self.reply, &mut taken, &mut written);
+        let (marks, reply) = (&mut self.marks, &mut self.reply);
+        let (t, w) = (&mut taken, &mut written);
         let number = match call {
-            Host(input) => raw::host(session, input, chars, attrs, reply, t, w),
-            Key(key) => raw::key(session, key, chars, attrs, reply, t, w),
+            Host(input) => raw::host(session, input, chars, attrs, marks, reply, t, w),
+            Key(key) => raw::key(session, key, chars, attrs, marks, reply, t, w),
         };
         (number, taken, written)
     }
 
     fn safe_call(&mut self, call: Call) -> Option<Answer> {
         let mut session = Session::from_bytes(self.session.clone().try_into().ok()?)?;
-        let (chars, attrs, reply) = (&mut self.chars, &mut self.attrs, &mut self.reply);
+        let (chars, attrs) = (&mut self.chars, &mut self.attrs);
+        let (marks, reply) = (&mut self.marks, &mut self.reply);
         let result = match call {
-            Host(input) => session.host_bytes(input, chars, attrs, reply),
-            Key(key) => session.key(key, chars, attrs, reply),
+            Host(input) => session.host_bytes(input, chars, attrs, marks, reply),
+            Key(key) => session.key(key, chars, attrs, marks, reply),
         };
         self.session = session.as_bytes().to_vec();
         Some(match result {

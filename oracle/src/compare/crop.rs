@@ -50,12 +50,19 @@ pub fn crop(script: &[Line], open: usize, side: Side, length: usize) -> Option<V
 
 impl Window {
     fn new(open: &Line, side: Side, length: usize) -> Option<Window> {
-        let Line::Open { m, n, chars, attrs } = *open else {
+        let Line::Open {
+            m,
+            n,
+            chars,
+            attrs,
+            marks,
+        } = *open
+        else {
             return None;
         };
         let (m, n) = (usize::from(m), usize::from(n));
-        let fits = chars == m * n && attrs == m * n && length < side.length(open);
-        if length == 0 || !fits {
+        let fit = [chars, attrs, marks] == [m * n; 3];
+        if length == 0 || !fit || length >= side.length(open) {
             return None;
         }
         let (mut columns, mut rows) = (0..m, 0..n);
@@ -83,6 +90,7 @@ impl Window {
             n: self.rows.len() as u16,
             chars: self.cells(),
             attrs: self.cells(),
+            marks: self.cells(),
         }
     }
 
@@ -90,6 +98,7 @@ impl Window {
         match line {
             Line::Chars(bytes) => Line::Chars(self.bytes(bytes)),
             Line::Attrs(bytes) => Line::Attrs(self.bytes(bytes)),
+            Line::Marks(bytes) => Line::Marks(self.bytes(bytes)),
             Line::Cursor(x, y) => Line::Cursor(
                 moved(*x, self.m, &self.columns),
                 moved(*y, self.n, &self.rows),
@@ -114,7 +123,7 @@ impl Window {
 
     /// As much above or below the room for the longest reply as before.
     fn room(&self, room: usize) -> usize {
-        room.saturating_sub(7 * (self.m * self.n - self.cells()))
+        room.saturating_sub(9 * (self.m * self.n - self.cells()))
     }
 }
 

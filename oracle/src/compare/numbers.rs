@@ -4,24 +4,31 @@ use crate::script::Line;
 
 pub fn numbers(line: &Line) -> Vec<usize> {
     match line {
-        Line::Open { m, n, chars, attrs } => vec![(*m).into(), (*n).into(), *chars, *attrs],
+        Line::Open {
+            m,
+            n,
+            chars,
+            attrs,
+            marks,
+        } => vec![(*m).into(), (*n).into(), *chars, *attrs, *marks],
         Line::Cursor(x, y) => vec![(*x).into(), (*y).into()],
         Line::Held(count) => vec![(*count).into()],
         Line::Det(on) | Line::Suppress(on) | Line::Pad(on) => vec![(*on).into()],
         Line::Host(_, room) => vec![*room],
         Line::Key(key, room) => vec![(*key).into(), *room],
-        Line::Chars(_) | Line::Attrs(_) | Line::State => Vec::new(),
+        Line::Chars(_) | Line::Attrs(_) | Line::Marks(_) | Line::State => Vec::new(),
     }
 }
 
 /// The line with other numbers, none of them higher than its own.
 pub fn with_numbers(line: &Line, numbers: &[usize]) -> Line {
     match (line, numbers) {
-        (Line::Open { .. }, &[m, n, chars, attrs]) => Line::Open {
+        (Line::Open { .. }, &[m, n, chars, attrs, marks]) => Line::Open {
             m: m as u16,
             n: n as u16,
             chars,
             attrs,
+            marks,
         },
         (Line::Cursor(..), &[x, y]) => Line::Cursor(x as u8, y as u8),
         (Line::Held(_), &[count]) => Line::Held(count as u8),

@@ -9,7 +9,7 @@ pub fn bytes(line: &Line) -> Option<(&[u8], Option<u8>)> {
     match line {
         Line::Host(bytes, _) => Some((bytes, None)),
         Line::Chars(bytes) => Some((bytes, Some(b' '))),
-        Line::Attrs(bytes) => Some((bytes, Some(0))),
+        Line::Attrs(bytes) | Line::Marks(bytes) => Some((bytes, Some(0))),
         _ => None,
     }
 }
@@ -19,6 +19,7 @@ pub fn with_bytes(line: &Line, bytes: &[u8]) -> Line {
         Line::Host(_, room) => Line::Host(bytes.to_vec(), *room),
         Line::Chars(_) => Line::Chars(bytes.to_vec()),
         Line::Attrs(_) => Line::Attrs(bytes.to_vec()),
+        Line::Marks(_) => Line::Marks(bytes.to_vec()),
         _ => line.clone(),
     }
 }

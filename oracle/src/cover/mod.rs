@@ -4,6 +4,7 @@ mod classify;
 mod facilities;
 mod line;
 mod lines;
+mod marks;
 mod message;
 mod pad;
 mod situation;
@@ -24,7 +25,7 @@ use facilities::FacilityCounts;
 use pad::PadCounts;
 use situation::Situation;
 
-const REFUSALS: usize = 11;
+const REFUSALS: usize = 12;
 const ERRORS: usize = 13;
 
 /// Every count starts at 0; the table asks that each rises.
@@ -91,6 +92,7 @@ impl Cover {
             return;
         };
         if let Some(refusal) = outcome.refusal {
+            self.marks_refused(refusal, line, replay);
             self.pad_refused(refusal, line, &replay.terminal.session);
         }
         match (line, outcome.refusal) {
@@ -117,14 +119,14 @@ impl Cover {
         self.count_if(input.is_empty(), Situation::NoBytes);
         self.count_if(outcome.taken < input.len(), Situation::FewerTaken);
         self.count_if(exact, Situation::HostRoomExact);
-        self.count_if(
-            session.size == Size { m: 132, n: 64 },
-            Situation::LargestScreen,
-        );
-        self.count_if(
-            outcome.written + session.size.room() == room,
-            Situation::FreeExact,
-        );
+        self.count_if(session.size.cells() == 7_280, Situation::LargestScreen);
+        self.count_if(session.size.m == Size::MOST_M, Situation::WidestScreen);
+        self.count_if(session.size.n == Size::MOST_N, Situation::HighestScreen);
+        let (least, free) = (session.size.room(), room - outcome.written);
+        let between = 7 * session.size.cells() + 2..least;
+        self.count_if(free == least, Situation::FreeExact);
+        let stopped = outcome.taken < input.len();
+        self.count_if(stopped && between.contains(&free), Situation::FreeBetween);
         self.count_phase(session.reader.phase);
     }
 

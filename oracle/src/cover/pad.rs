@@ -51,6 +51,7 @@ fn works(sight: Sight) -> bool {
 impl Watch for Cover {
     fn saw(&mut self, event: Event, sight: Sight) {
         let Sight { screen, det, .. } = sight;
+        self.marks(event, sight);
         match event {
             Event::Data(LF) => self.line_feed(sight),
             Event::Data(byte) => self.data(byte, screen),
@@ -79,6 +80,7 @@ impl Watch for Cover {
             Event::Key(key) => {
                 self.key(key, screen);
                 self.facility_key(key, sight);
+                self.marks_key(key, screen);
             }
         }
     }

@@ -20,7 +20,9 @@ situations! {
     FewerTaken "host call that took fewer bytes than it was given";
     HostRoomExact "host call with room for one reply exactly";
     FreeExact "host call that left room for one reply exactly";
-    LargestScreen "host call on a screen of 132 by 64";
+    LargestScreen "host call on a screen of 7,280 cells";
+    WidestScreen "host call on a screen of 132 by something";
+    HighestScreen "host call on a screen of something by 64";
     KeyRoomExact "key with room for one reply exactly";
 
     Do20Off "DO 20 while off";
@@ -137,6 +139,41 @@ situations! {
     TabSuppressed "key 9 with a protected field while suppressed";
     SendNone "key 13 without fields";
     SendMany "key 13 with several fields";
+
+    ModifiedNone "27 with no mark at all";
+    ModifiedNoField "27 with marks on protected cells alone";
+    ModifiedOne "27 with one marked field";
+    ModifiedMany "27 with several marked fields";
+    ModifiedSome "27 with a marked field after an unmarked one";
+    ModifiedProtected "27 with marks on protected cells too";
+    ModifiedSuppressed "27 with marks on protected cells while suppressed";
+    ModifiedInside "27 with a field marked neither first nor last";
+    ModifiedCrosses "27 with a marked field that crosses a line's end";
+    TypedMarks "typed in an unmarked cell";
+    TypedMarkedSame "typed what stands in an unmarked cell";
+    TypedSuppressedMark "typed in an unmarked protected cell";
+    DeleteKeyMarks "key 127 with unmarked cells to shift";
+    ShiftMarks "15 or 16 with unmarked cells to shift";
+    ShiftMarksSame "15 or 16 with an unmarked cell that keeps its character";
+    ShiftStopped "13 to 16 stopped by a guard with unmarked cells";
+    LinesMark "13 or 14 with unmarked cells to move";
+    LinesMarkSome "13 or 14 with marked and unmarked cells to move";
+    EraseScreenMarks "29 with marks";
+    EraseUnprotectedMarks "35 with marks on protected cells";
+    EraseLeavesMarks "30 to 34 with marks";
+    EraseLeavesUnmarked "30 to 34 without a mark";
+    SendLeavesMarks "21 with marks";
+    SendKeyLeavesMarks "key 13 with marks";
+    FormatOverMarks "36 over marked cells";
+    FormatOverUnmarked "36 over unmarked cells";
+    HostUnmarked "host character written in an unmarked cell";
+    DontLeavesMarks "DONT 20 while on with marks";
+    Refused2Open "open refused 2 for the mark buffer alone";
+    Refused2Marks "call refused 2 for the mark buffer alone";
+    Refused11Room "call refused 11 with too little room besides";
+    Refused4Mark "call refused 4 with a mark above 1 besides";
+    RoomBetween "call refused 5 with 7C + 2 bytes or more";
+    FreeBetween "host call that stopped with 7C + 2 bytes or more free";
 
     Do30At37 "DO 30 while off on 37 cells";
     Do30Off "DO 30 while off on more";

@@ -119,10 +119,10 @@ impl Cover {
         for number in 1..=2 {
             rows.row(format!("open refused {number}"), self.open_refused[number]);
         }
-        for number in 1..=5 {
+        for number in [1, 2, 3, 4, 11, 5] {
             rows.row(format!("host refused {number}"), self.host_refused[number]);
         }
-        for number in 1..=10 {
+        for number in 1..=11 {
             let count = self.key_refused[number].iter().sum();
             rows.row(format!("key refused {number}"), count);
         }

@@ -184,6 +184,25 @@ const ROWS: &[(Variant, &[(u8, Bit)])] = &[
     ),
     (Variant::Bit37SecondByte, &[(code::REPEAT, ALPHABETIC)]),
     (Variant::Bit37Fn, &[(code::REPEAT, FN)]),
+    (Variant::Bit27Fn, &[(code::TRANSMIT_MODIFIED, FN)]),
+    (Variant::Bit27Repeat, &[(code::TRANSMIT_MODIFIED, REPEAT)]),
+    (
+        Variant::Bit27LightPen,
+        &[(code::TRANSMIT_MODIFIED, Bit(Map::Format0, 5))],
+    ),
+    (
+        Variant::Bit27OnOff,
+        &[(code::TRANSMIT_MODIFIED, PROTECTION_ON_OFF)],
+    ),
+    (
+        Variant::Bit27Protection,
+        &[(code::TRANSMIT_MODIFIED, PROTECTION)],
+    ),
+    (
+        Variant::Bit27DataTransmit,
+        &[(code::TRANSMIT_MODIFIED, DATA_TRANSMIT)],
+    ),
+    (Variant::Bit37Modified, &[(code::REPEAT, MODIFIED)]),
     // Commands that need no facility.
     (Variant::MoveGoverned, &[(code::MOVE_CURSOR, INCREMENTAL)]),
     (Variant::MovePositive, &[(code::MOVE_CURSOR, POSITIVE)]),

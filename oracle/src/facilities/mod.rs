@@ -22,12 +22,13 @@ pub enum Map {
 pub const MAPS: usize = 5;
 
 /// The terminal's own maps.
-pub const OWN: [u8; MAPS] = [126, 0b1_1111, 63, 144, 121];
+pub const OWN: [u8; MAPS] = [126, 0b1_1111, 63, 208, 121];
 
 /// One of them, as a variant has it.
 pub fn own(place: usize, variant: Variant) -> u8 {
     match (variant, place) {
         (Variant::EditMapOld, 0) => 54,
+        (Variant::FormatMapOld, 3) => 144,
         _ => OWN[place],
     }
 }
@@ -68,6 +69,7 @@ pub mod bit {
     pub const TRANSMIT_REST_OF_FIELD: Bit = Bit(Map::Transmit, 0);
 
     pub const FN: Bit = Bit(Map::Format0, 7);
+    pub const MODIFIED: Bit = Bit(Map::Format0, 6);
     pub const REPEAT: Bit = Bit(Map::Format0, 4);
     pub const PROTECTION_ON_OFF: Bit = Bit(Map::Format1, 6);
     pub const PROTECTION: Bit = Bit(Map::Format1, 5);
@@ -76,7 +78,7 @@ pub mod bit {
 }
 
 /// Which bit governs which command. Those that are not here have none.
-const GOVERNED: [(u8, Bit); 26] = [
+const GOVERNED: [(u8, Bit); 27] = [
     (code::SKIP_TO_LINE, bit::TOROIDAL),
     (code::SKIP_TO_CHAR, bit::TOROIDAL),
     (code::UP, bit::INCREMENTAL),
@@ -95,6 +97,7 @@ const GOVERNED: [(u8, Bit); 26] = [
     (code::TRANSMIT_REST_OF_SCREEN, bit::TRANSMIT_REST_OF_SCREEN),
     (code::TRANSMIT_REST_OF_LINE, bit::TRANSMIT_REST_OF_LINE),
     (code::TRANSMIT_REST_OF_FIELD, bit::TRANSMIT_REST_OF_FIELD),
+    (code::TRANSMIT_MODIFIED, bit::MODIFIED),
     (code::ERASE_LINE, bit::ERASE_LINE),
     (code::ERASE_FIELD, bit::ERASE_FIELD),
     (code::ERASE_REST_OF_SCREEN, bit::ERASE_REST_OF_SCREEN),

@@ -18,6 +18,7 @@ impl Desk<'_> {
             (Variant::NeverError1, ..) => true,
             (Variant::AnyBitWillDo, ..) => self.agreed.0[bit.0 as usize] != 0,
             (Variant::UnprotectedFree, ..) => bit == bit::PROTECTION,
+            (Variant::ModifiedFree, ..) => bit == bit::MODIFIED,
             (Variant::SkipsFree, ..) => bit == bit::TOROIDAL,
             (Variant::LinesFree, ..) => bit == bit::LINES,
             (Variant::SuppressDontFree, code::SUPPRESS_PROTECTION, [DONT]) => true,

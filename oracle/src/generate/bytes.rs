@@ -31,7 +31,7 @@ pub fn subnegotiation(bytes: &mut Vec<u8>, option: u8, inside: &[u8]) {
 impl Generator {
     /// One thing that a host might send.
     pub fn atom(&mut self, bytes: &mut Vec<u8>) {
-        const WEIGHTS: [usize; 16] = [40, 14, 10, 6, 7, 3, 14, 5, 2, 1, 6, 4, 4, 6, 4, 2];
+        const WEIGHTS: [usize; 17] = [40, 14, 10, 6, 7, 3, 14, 5, 2, 1, 6, 4, 4, 6, 4, 3, 2];
         match self.rng.weighted(&WEIGHTS) {
             0 => self.command(bytes),
             1 => self.move_cursor(bytes),
@@ -48,6 +48,7 @@ impl Generator {
             12 => self.suppress(bytes),
             13 => self.narrow(bytes),
             14 => self.whole_lines(bytes),
+            15 => self.modified(bytes),
             _ => self.start_again(bytes),
         }
     }

@@ -5,6 +5,7 @@ mod bytes;
 mod facilities;
 mod keys;
 mod lines;
+mod marks;
 mod opening;
 mod pad;
 mod parameters;
@@ -101,7 +102,7 @@ impl Generator {
     fn step(&mut self) {
         match self
             .rng
-            .weighted(&[60, 22, 5, 4, 2, 5, 3, 2, 4, 3, 2, 2, 1])
+            .weighted(&[60, 22, 5, 4, 2, 5, 3, 2, 7, 3, 2, 2, 5, 3, 1])
         {
             0 => self.stream(),
             1 => self.key_burst(),
@@ -115,6 +116,8 @@ impl Generator {
             9 => self.half_read(),
             10 => self.paint(),
             11 => self.agree(),
+            12 => self.touch(),
+            13 => self.set_marks(),
             _ => self.empty_call(),
         }
     }
@@ -156,11 +159,12 @@ impl Generator {
     /// be taken, or just not.
     fn room(&mut self, replies: usize) -> usize {
         let least = self.size.room();
+        let lower = 7 * self.size.cells() + 2;
         let room = match self.rng.weighted(&[8, 3, 1, 1, 8, 26, 8]) {
             0 => least,
             1 => least + 1,
             2 => least - 1,
-            3 => self.rng.pick(&[0, 0, 1, least / 2]),
+            3 => self.rng.pick(&[0, 1, least / 2, lower - 1, lower, lower]),
             4 => least + self.rng.within(2, 24),
             5 => least + 16 * replies,
             _ => least * self.rng.within(2, 3),

@@ -19,11 +19,13 @@ const BAD_SIZES: [(u16, u16); 10] = [
     (65_535, 65_535),
 ];
 
-/// Rare, since each answer prints the whole screen.
-const LARGE_SIZES: [Size; 9] = [
-    Size { m: 132, n: 64 },
-    Size { m: 132, n: 64 },
-    Size { m: 131, n: 63 },
+/// Rare, since each answer prints the whole screen. None has more than the
+/// 7,281 cells that programs keep to.
+const LARGE_SIZES: [Size; 10] = [
+    Size { m: 130, n: 56 },
+    Size { m: 130, n: 56 },
+    Size { m: 132, n: 55 },
+    Size { m: 113, n: 64 },
     Size { m: 132, n: 1 },
     Size { m: 1, n: 64 },
     Size { m: 80, n: 24 },
@@ -52,28 +54,37 @@ impl Generator {
     pub fn refused_open(&mut self) {
         let (m, n) = self.rng.pick(&BAD_SIZES);
         let cells = usize::from(m) * usize::from(n);
-        let (chars, attrs) = match self.rng.below(5) {
-            0 | 1 => (cells, cells),
-            2 => (self.rng.below(9), self.rng.below(9)),
+        let lengths = match self.rng.below(5) {
+            0 => [cells; 3],
+            1 => [(); 3].map(|()| self.rng.below(9)),
             _ => return self.open_wrong_buffers(),
         };
-        let (chars, attrs) = (chars.min(8_448), attrs.min(8_448));
-        self.push(Line::Open { m, n, chars, attrs });
+        self.push_open(m, n, lengths.map(|length| length.min(8_448)));
         self.after_refused_open();
     }
 
+    /// One buffer of a wrong length, or some.
     fn open_wrong_buffers(&mut self) {
         let size = self.small_size();
         let cells = size.cells();
         let other = self.rng.pick(&[0, cells - 1, cells + 1, 2 * cells]);
-        let (chars, attrs) = match self.rng.below(3) {
-            0 => (other, cells),
-            1 => (cells, other),
-            _ => (other, other),
-        };
-        let (m, n) = (size.m.into(), size.n.into());
-        self.push(Line::Open { m, n, chars, attrs });
+        let mut lengths = [cells; 3];
+        lengths[self.rng.below(3)] = other;
+        if self.rng.once_in(3) {
+            lengths[self.rng.below(3)] = other;
+        }
+        self.push_open(size.m.into(), size.n.into(), lengths);
         self.after_refused_open();
+    }
+
+    fn push_open(&mut self, m: u16, n: u16, [chars, attrs, marks]: [usize; 3]) {
+        self.push(Line::Open {
+            m,
+            n,
+            chars,
+            attrs,
+            marks,
+        });
     }
 
     /// Buffers of no length let refusal 1 stand alone.
@@ -82,6 +93,7 @@ impl Generator {
         if self.rng.once_in(3) {
             self.push(Line::Chars(Vec::new()));
             self.push(Line::Attrs(Vec::new()));
+            self.push(Line::Marks(Vec::new()));
         }
         for _ in 0..self.rng.below(3) {
             self.probe();
@@ -99,14 +111,7 @@ impl Generator {
     pub fn open_sized(&mut self, size: Size) {
         self.size = size;
         self.noted = Parameters::default();
-        let cells = self.size.cells();
-        let (m, n) = (self.size.m.into(), self.size.n.into());
-        self.push(Line::Open {
-            m,
-            n,
-            chars: cells,
-            attrs: cells,
-        });
+        self.push_open(size.m.into(), size.n.into(), [size.cells(); 3]);
     }
 
     fn small_size(&mut self) -> Size {

@@ -24,6 +24,16 @@ impl Generator {
         self.push(Line::Attrs(attrs));
     }
 
+    /// None, all, a few, or many.
+    pub fn set_marks(&mut self) {
+        let one_in = self.rng.pick(&[1, 2, 5, 5]);
+        let bare = self.rng.once_in(4);
+        let cells = 0..self.size.cells();
+        let marks = cells.map(|_| u8::from(!bare && self.rng.once_in(one_in)));
+        let marks = marks.collect();
+        self.push(Line::Marks(marks));
+    }
+
     pub fn set_chars(&mut self) {
         let chars = self.screenful();
         self.push(Line::Chars(chars));
@@ -103,11 +113,12 @@ impl Generator {
     /// mended again.
     pub fn spoil(&mut self) {
         for _ in 0..self.rng.within(1, 2) {
-            match self.rng.below(6) {
+            match self.rng.below(8) {
                 0 => self.spoil_length(),
                 1 | 2 => self.spoil_character(),
                 3 => self.spoil_cursor(),
                 4 => self.spoil_held(),
+                5 | 6 => self.spoil_marks(),
                 _ => self.spoil_pad(),
             }
         }
@@ -116,6 +127,7 @@ impl Generator {
         }
         self.set_chars();
         self.set_attrs();
+        self.set_marks();
         self.set_cursor();
         let count = self.rng.pick(&[0, 0, 0, 0, 0, 1, 3, 6]);
         self.push(Line::Held(count));
@@ -147,6 +159,19 @@ impl Generator {
         self.push(Line::Chars(chars));
     }
 
+    /// A mark above 1, or a wrong length.
+    fn spoil_marks(&mut self) {
+        let mut marks: Vec<u8> = vec![self.rng.below(2) as u8; self.size.cells()];
+        let cell = self.rng.below(marks.len());
+        match self.rng.below(6) {
+            0 => marks.push(self.rng.below(2) as u8),
+            1 => _ = marks.pop(),
+            2 => marks.push(2),
+            _ => marks[cell] = self.rng.pick(&[2, 2, 3, 128, 255]),
+        }
+        self.push(Line::Marks(marks));
+    }
+
     fn spoil_cursor(&mut self) {
         let (x, y) = self.position();
         let (m, n) = (self.size.m, self.size.n);
@@ -165,8 +190,8 @@ impl Generator {
     }
 
     pub fn refused_call(&mut self) {
-        let short = self.rng.once_in(3);
-        let room = self.size.room() - usize::from(short);
+        let room = self.size.room();
+        let room = self.rng.pick(&[room, room, room - 1, room / 2]);
         match self.rng.below(3) {
             0 => self.push(Line::Host(vec![b'A', 255], room)),
             1 => self.push(Line::Key(b'A', room)),

@@ -67,7 +67,12 @@ impl Desk<'_> {
 
     pub fn show(&mut self, bytes: &[u8]) {
         for &byte in bytes {
+            let at = self.screen.at();
             match self.variant {
+                Variant::EchoMarks if !self.screen.guarded(at) && (32..=126).contains(&byte) => {
+                    self.screen.mark(at..at + 1);
+                    self.screen.text(byte);
+                }
                 Variant::EchoLfSwallowed => self.host_text(byte),
                 Variant::EchoAsTyped if (32..=126).contains(&byte) => self.show_as_typed(byte),
                 _ => self.screen.text(byte),

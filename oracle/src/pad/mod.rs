@@ -36,6 +36,7 @@ pub struct Pad {
 /// Whether a full line fits the reply room of so many cells.
 pub fn fits(cells: usize, variant: Variant) -> bool {
     let least = match variant {
+        Variant::Pad29Cells => 29,
         Variant::Pad36Cells => 36,
         Variant::Pad38Cells => 38,
         _ => 37,

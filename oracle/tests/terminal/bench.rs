@@ -2,13 +2,14 @@
 
 use oracle::refusal::Refusal;
 use oracle::size::{Position, X, Y};
-use oracle::terminal::{Lent, Outcome, Terminal};
+use oracle::terminal::{Buffers, Lent, Outcome, Terminal};
 use oracle::watch::Unwatched;
 
 pub struct Bench {
     pub terminal: Terminal,
     pub chars: Vec<u8>,
     pub attrs: Vec<u8>,
+    pub marks: Vec<u8>,
     pub room: usize,
     pub reply: Vec<u8>,
 }
@@ -21,13 +22,12 @@ impl Bench {
             terminal: Terminal::default(),
             chars: vec![b'*'; cells],
             attrs: vec![17; cells],
-            room: 4 * (7 * cells + 2),
+            marks: vec![1; cells],
+            room: 4 * 9 * cells,
             reply: Vec::new(),
         };
-        let outcome = bench
-            .terminal
-            .open(m, n, &mut bench.chars, &mut bench.attrs);
-        assert_eq!(outcome, Outcome::default());
+        let (terminal, lent) = bench.lend();
+        assert_eq!(terminal.open(m, n, lent.buffers), Outcome::default());
         bench
     }
 
@@ -81,13 +81,8 @@ impl Bench {
     }
 
     pub fn try_host(&mut self, input: &[u8]) -> Outcome {
-        self.reply = vec![0xa5; self.room];
-        let lent = Lent {
-            chars: &mut self.chars,
-            attrs: &mut self.attrs,
-            reply: &mut self.reply,
-        };
-        self.terminal.host(lent, input, &mut Unwatched)
+        let (terminal, lent) = self.lend();
+        terminal.host(lent, input, &mut Unwatched)
     }
 
     /// A key that must be taken; the reply.
@@ -98,13 +93,22 @@ impl Bench {
     }
 
     pub fn try_key(&mut self, key: u8) -> Outcome {
+        let (terminal, lent) = self.lend();
+        terminal.key(lent, key, &mut Unwatched)
+    }
+
+    fn lend(&mut self) -> (&mut Terminal, Lent<'_>) {
         self.reply = vec![0xa5; self.room];
-        let lent = Lent {
+        let buffers = Buffers {
             chars: &mut self.chars,
             attrs: &mut self.attrs,
+            marks: &mut self.marks,
+        };
+        let lent = Lent {
+            buffers,
             reply: &mut self.reply,
         };
-        self.terminal.key(lent, key, &mut Unwatched)
+        (&mut self.terminal, lent)
     }
 
     /// A DET subcommand that must be taken; the reply.

@@ -6,11 +6,12 @@ const DO: u8 = 253;
 const DONT: u8 = 254;
 const IAC: u8 = 255;
 
-const ALL: [u8; 5] = [126, 31, 63, 144, 121];
+const ALL: [u8; 5] = [126, 31, 63, 208, 121];
 
 /// Each governed command, its facility command's code, its place among the
 /// five maps, and its bit's value there.
-const GOVERNED: [(u8, u8, usize, u8); 26] = [
+const GOVERNED: [(u8, u8, usize, u8); 27] = [
+    (27, 4, 3, 64),
     (6, 1, 0, 64),
     (7, 1, 0, 64),
     (13, 1, 0, 8),
@@ -88,7 +89,7 @@ fn other_commands_need_nothing() {
     assert_eq!(screen.attrs[0], 8);
     let sent = [subcommand(&[28, 0, 0]), b"      ".to_vec()].concat();
     assert_eq!(screen.command(&[20]), sent);
-    for code in [0, 18, 27, 28, 39, 40, 42] {
+    for code in [0, 18, 28, 39, 40, 42] {
         assert_eq!(screen.command(&[code]), error(code, 2));
     }
 }
@@ -113,7 +114,7 @@ fn the_latest_facility_command_of_a_class_counts() {
     screen.agree_all();
     assert_eq!(screen.agreed(), ALL);
     screen.command(&[1, 2]);
-    assert_eq!(screen.agreed(), [2, 31, 63, 144, 121]);
+    assert_eq!(screen.agreed(), [2, 31, 63, 208, 121]);
     screen.command(&[1, 4]);
     screen.command(&[4, 0, 0]);
     assert_eq!(screen.agreed(), [4, 31, 63, 0, 0]);

@@ -3,6 +3,7 @@
 mod bench;
 mod facilities;
 mod lines;
+mod marks;
 mod pad_echo;
 mod pad_line;
 mod pad_messages;

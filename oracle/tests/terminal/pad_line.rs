@@ -82,7 +82,7 @@ fn a_full_line() {
 #[test]
 fn a_full_line_of_cr_fits_the_least_room() {
     let mut pad = Bench::pad(37, 1).set(&[3, 64]);
-    pad.room = 7 * 37 + 2;
+    pad.room = 9 * 37;
     pad.keys(&[13; 128]);
     assert_eq!(pad.try_key(b' '), refused(Refusal::LineFull));
     let mut expected = b"\r\0".repeat(128);
@@ -90,7 +90,7 @@ fn a_full_line_of_cr_fits_the_least_room() {
     assert_eq!(pad.key(0), expected);
 
     let mut pad = Bench::pad(37, 1);
-    pad.room = 7 * 37 + 2;
+    pad.room = 9 * 37;
     pad.keys(&[13; 128]);
     let mut pad = pad.set(&[3, 2, 13, 2]);
     assert_eq!(pad.key(13), b"\r\n".repeat(129));

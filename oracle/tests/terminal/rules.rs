@@ -21,7 +21,7 @@ fn facilities_answer_with_own_maps() {
     assert_eq!(form.command(&[1, 0]), subcommand(&[1, 126]));
     assert_eq!(form.command(&[2, 255]), subcommand(&[2, 31]));
     assert_eq!(form.command(&[3, 1]), subcommand(&[3, 63]));
-    assert_eq!(form.command(&[4, 9, 9]), subcommand(&[4, 144, 121]));
+    assert_eq!(form.command(&[4, 9, 9]), subcommand(&[4, 208, 121]));
 }
 
 #[test]
@@ -52,7 +52,7 @@ fn dont_20_ends_suppression_only_while_on() {
 #[test]
 fn errors_in_their_order() {
     let mut form = Bench::form_f(3, 0);
-    for code in [0, 18, 27, 28, 39, 40, 42, 254] {
+    for code in [0, 18, 28, 39, 40, 42, 254] {
         assert_eq!(form.command(&[code, 1, 2, 3, 4, 5, 6]), error(code, 2));
     }
     assert_eq!(form.command(&[36, 255, 255]), error(36, 10));
@@ -193,10 +193,10 @@ fn format_data_sets_attributes_alone() {
 #[test]
 fn bytes_are_taken_while_the_longest_reply_fits() {
     let mut form = Bench::form_f(3, 0);
-    form.room = 114 + 2;
+    form.room = 144 + 2;
     let outcome = form.try_host(&[IAC, DO, 3, b'A']);
     assert_eq!((outcome.taken, outcome.written), (3, 3));
-    form.room = 114 + 3;
+    form.room = 144 + 3;
     let outcome = form.try_host(&[IAC, DO, 3, b'A']);
     assert_eq!((outcome.taken, outcome.written), (4, 3));
 }

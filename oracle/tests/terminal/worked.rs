@@ -2,7 +2,7 @@
 
 use crate::bench::{refused, Bench};
 use oracle::refusal::Refusal;
-use oracle::terminal::{Outcome, Terminal};
+use oracle::terminal::{Buffers, Outcome, Terminal};
 
 #[test]
 fn p1_char_delete() {
@@ -111,10 +111,10 @@ fn do_of_another_option() {
 #[test]
 fn reply_room() {
     let mut form = Bench::form_f(3, 0);
-    form.room = 114;
+    form.room = 144;
     assert_eq!(form.try_host(b"").refusal, None);
     assert_eq!(form.try_key(9).refusal, None);
-    form.room = 113;
+    form.room = 143;
     assert_eq!(form.try_host(b"A"), refused(Refusal::Room));
     assert_eq!(form.try_key(9), refused(Refusal::Room));
     assert_eq!(Refusal::Room.number(), 5);
@@ -124,8 +124,17 @@ fn reply_room() {
 fn sizes() {
     let open = |m: u16, n: u16| {
         let cells = usize::from(m) * usize::from(n);
-        let (mut chars, mut attrs) = (vec![0; cells], vec![0; cells]);
-        Terminal::default().open(m, n, &mut chars, &mut attrs)
+        let mut lent = [(); 3].map(|()| vec![0; cells]);
+        let [chars, attrs, marks] = &mut lent;
+        Terminal::default().open(
+            m,
+            n,
+            Buffers {
+                chars,
+                attrs,
+                marks,
+            },
+        )
     };
     assert_eq!(open(132, 64), Outcome::default());
     assert_eq!(open(133, 64), refused(Refusal::Size));

@@ -8,7 +8,7 @@ use Rattle.words.specs.Words.{if_then_else_}
 use Rattle.telnet.specs.declared.Event.{Event}
 use Rattle.telnet.specs.declared.Event.the-variants.{Nothing, Data, Negotiation, Begin, Sub, End, EndBare, Lost}
 use Rattle.rules.specs.declared.Held.{Held}
-use Rattle.rules.specs.Session.{View, lineTakesKeys, screen}
+use Rattle.rules.specs.Session.{View, lineTakesKeys}
 use Rattle.rules.specs.Effect.{Effect, quiet}
 use Rattle.rules.specs.Telnet.{negotiated, hostData, hostText}
 use Rattle.decide.specs.Decision.{endedDet}
@@ -17,7 +17,7 @@ use Rattle.det.specs.declared.data.DataTurn.{DataTurn}
 
 -- what some bytes do: lf tells whether CR LF is printed as such, cr whether a CR came last before them
 pub record DataDone (v : View) (lf cr : Bool) (bytes chars : List ℕ) (t : DataTurn) (chars′ : List ℕ) : Type 0 where
-  pub done : Changes (hostText v (obeyedBytes (lineTakesKeys (v .frame) && not lf) cr bytes)) (screen chars (v .attrs)) (t .frame) chars′
+  pub done : Changes (hostText v (obeyedBytes (lineTakesKeys (v .frame) && not lf) cr bytes)) chars (v .attrs) (t .frame) chars′
   pub ends : t .cr ≡ endsInCr cr bytes
 
 -- one byte of it

@@ -25,11 +25,15 @@ text c = let p = c .before .before in rw (p .before .before .before .say5 .given
 fields : tie.Need-returns-7
 fields c = let p = c .before .before in rw (p .before .before .before .say6 .given .1) (p .put-form .ensures)
 
+modified : tie.Need-returns-8
+modified c = let p = c .before .before in rw (p .before .before .before .say7 .given .1) (p .put-modified .ensures)
+
 pub write-reply-spec : {M : Type 1} → statement M
 write-reply-spec =
     tie.close
     (tie.spec
     (search needs) (search needs) (search needs) (search needs) (search needs) (search needs) (search needs) (search needs)
     (search needs) (search needs) (search needs) (search needs) (search needs) (search needs) (search needs)
+    (search needs) (search needs)
     silent (search needs) negotiation (search needs) two (search needs) three
-    (search needs) preface (search needs) text (search needs) fields)
+    (search needs) preface (search needs) text (search needs) fields (search needs) modified)

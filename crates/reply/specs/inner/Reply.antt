@@ -4,12 +4,14 @@ use mathlib.Core.List.{List}
 use Prim.Native.Nat.{ℕ}
 use lib.ListN.{length}
 use Rattle.words.specs.Stored.{Room}
+use Rattle.rules.specs.Session.{Screen}
 use Rattle.rules.specs.Effect.{spelledAll}
 use Rattle.decide.specs.declared.decision.Say.{Say}
 use Rattle.decide.specs.Decision.{partsOf, Sendable}
 
--- What is said can be written: a text lies on the screen, the buffers are equally long, and the bytes fit into the reply from `at` on.
-pub record Sayable (say : Say) (chars attrs reply : List ℕ) (at : ℕ) : Type 0 where
-  pub sendable : Sendable attrs say
-  pub long : length chars ≡ length attrs
-  pub room : Room reply at (spelledAll chars (partsOf attrs say))
+-- What is said can be written: a text lies on the screen, there are as many characters as attribute bytes, and the bytes fit into the
+-- reply from `at` on.
+pub record Sayable (say : Say) (b : Screen) (reply : List ℕ) (at : ℕ) : Type 0 where
+  pub sendable : Sendable (b .attrs) say
+  pub long : length (b .chars) ≡ length (b .attrs)
+  pub room : Room reply at (spelledAll b (partsOf (b .attrs) say))

@@ -14,13 +14,13 @@ use Rattle.screen.specs.Words.{firstOf, lastOf}
 use Rattle.screen.specs.Attributes.{protectedAt}
 use Rattle.screen.specs.Fields.{startsAt, opensAt, fieldStart, fieldEnd, spanEnd}
 use Rattle.screen.specs.Scans.{nextOpen}
-use Rattle.edit.specs.Edits.{deleted, inserted, shifted, onPart, erased, formatted}
+use Rattle.edit.specs.Edits.{deleted, inserted, shifted, onPart, erased, filled, someMarked}
 use Rattle.screen.specs.Classes.{takes}
-use Rattle.rules.specs.Session.{allPrintable, padOk, sessionOk}
+use Rattle.rules.specs.Session.{allPrintable, allMarks, padOk, sessionOk}
 use Rattle.rules.specs.Facility.{weight, ownMap, receiving, agreed}
 use Rattle.rules.specs.Refusal.{verdict, sizeTests, stateTests}
 use Rattle.rules.specs.Command.{rows, rowIn, meaning, reaches, valueFault, faultOf}
-use Rattle.rules.specs.Effect.{changed, changedAll, spelled, spelledAll}
+use Rattle.rules.specs.Effect.{changed, changedAll, marking, spelled, spelledAll}
 use Rattle.rules.specs.Cursor.{
   linesDown,
   skippedToChar,
@@ -49,7 +49,7 @@ use Rattle.rules.specs.Telnet.{
   hostText,
 }
 use Rattle.rules.specs.Pad.{empties, padAfter, response, lineTests, padTyped, typedTo, passes}
-use Rattle.rules.specs.Subcommand.{fieldTexts, transmitted, erasure, suppressing, obeyed, judged, looked, subcommand}
+use Rattle.rules.specs.Subcommand.{fieldTexts, modifiedTexts, transmitted, erasure, suppressing, obeyed, judged, looked, subcommand}
 use Rattle.rules.specs.Key.{keyOf, needsOf, keyTests, pressed}
 use Rattle.rules.specs.Operation.{happening, hostByte, running, unless, takenOf, hostBytes, oneKey, opened}
 use Rattle.rules.specs.Call.{called, answersOf, stateAfter, executedBy, executedOf}
@@ -57,12 +57,12 @@ use Rattle.rules.specs.Call.{called, answersOf, stateAfter, executedBy, 
 unfoldable pub computing : ℕ
 unfolding bit parameters lines messages responses keys echoes printsLf reader doubled subnegotiation negotiation firstOf lastOf tabulate
     protectedAt startsAt opensAt fieldStart fieldEnd spanEnd
-    nextOpen deleted inserted shifted onPart erased formatted takes allPrintable padOk sessionOk weight ownMap receiving
+    nextOpen deleted inserted shifted onPart erased filled someMarked takes allPrintable allMarks padOk sessionOk weight ownMap receiving
     agreed verdict sizeTests stateTests rows rowIn
-    meaning reaches valueFault faultOf changed changedAll spelled spelledAll linesDown skippedToChar
-    nextCell homeCell backTabCell firstFieldCell nextFieldCell previousOpenCell destination holding heldAfter crAfter optionOf isOn accepts turned switchedOn switchedOff
-    negotiated hostCharacter hostCharacters
-    hostData hostText empties padAfter response lineTests padTyped typedTo passes fieldTexts
+    meaning reaches valueFault faultOf changed changedAll marking spelled spelledAll linesDown skippedToChar
+    nextCell homeCell backTabCell firstFieldCell nextFieldCell previousOpenCell destination
+    holding heldAfter crAfter optionOf isOn accepts turned switchedOn switchedOff negotiated hostCharacter hostCharacters
+    hostData hostText empties padAfter response lineTests padTyped typedTo passes fieldTexts modifiedTexts
     transmitted erasure suppressing obeyed judged looked subcommand keyOf needsOf keyTests pressed happening hostByte running unless
     takenOf hostBytes oneKey opened called answersOf stateAfter executedBy executedOf
 computing = 0

@@ -199,7 +199,8 @@ sameBeside a b =
     same (numbers a) (numbers b)
     && (same (a .left .session .reader .held .bytes) (b .left .session .reader .held .bytes)
     && (same (a .left .screen .chars) (b .left .screen .chars)
-    && (same (a .left .screen .attrs) (b .left .screen .attrs) && same (a .replies) (b .replies))))
+    && (same (a .left .screen .attrs) (b .left .screen .attrs)
+    && (same (a .left .screen .marks) (b .left .screen .marks) && same (a .replies) (b .replies)))))
 
 unfoldable pub sameBrief : Brief → Brief → Bool
 sameBrief a b = sameBeside a b && samePad (a .left .session .pad) (b .left .session .pad)
@@ -265,19 +266,20 @@ abbrev reader : Phase → List ℕ → Bool → Reader
 reader phase held cr =
     record { phase = phase; held = record { bytes = held ++ replicate (6 - length held) 0; count = length held }; cr = cr }
 
--- a start with DET on and all facilities agreed
+-- A start with DET on and all facilities agreed. Every cell is marked, so that a case tells of marks only where they are cleared; those of
+-- request (v) start with none.
 abbrev pub starting : ℕ → ℕ → Bool → List ℕ → List ℕ → ℕ → ℕ → State
 starting m n suppressed chars attrs x y =
     let f : Frame =
     record { width = m; height = n; cursor = place x y; det = true; x3 = false; suppressed = suppressed; received = allMaps } in
-    state (session f (reader Rest [] false) freshPad) (screen chars attrs)
+    state (session f (reader Rest [] false) freshPad) (screen chars attrs (replicate (length chars) 1))
 
 -- a state with another frame
 abbrev framed : Frame → State → State
 framed f s = state (session f (s .session .reader) (s .session .pad)) (s .screen)
 
 -- a state with one thing else, and all other things as they were: the cursor, the modes, the maps received, the reader with the bytes
--- held, whether the last byte of data was a CR, option 30 on, the PAD, the characters, the attribute bytes
+-- held, whether the last byte of data was a CR, option 30 on, the PAD, the characters, the attribute bytes, the marks
 abbrev pub at : ℕ → ℕ → State → State
 at x y s = framed (placed (s .session .frame) (place x y)) s
 
@@ -306,10 +308,17 @@ abbrev pub padded : Pad → State → State
 padded p s = state (session (s .session .frame) (s .session .reader) p) (s .screen)
 
 abbrev pub showing : List ℕ → State → State
-showing chars s = state (s .session) (screen chars (s .screen .attrs))
+showing chars s = state (s .session) (screen chars (s .screen .attrs) (s .screen .marks))
 
 abbrev pub attributed : List ℕ → State → State
-attributed attrs s = state (s .session) (screen (s .screen .chars) attrs)
+attributed attrs s = state (s .session) (screen (s .screen .chars) attrs (s .screen .marks))
+
+abbrev pub marked : List ℕ → State → State
+marked marks s = state (s .session) (screen (s .screen .chars) (s .screen .attrs) marks)
+
+-- no cell is marked
+abbrev pub unmarked : State → State
+unmarked s = marked (replicate (length (s .screen .marks)) 0) s
 
 abbrev pub unchanged : State → State
 unchanged s = s

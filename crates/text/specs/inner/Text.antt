@@ -6,7 +6,7 @@ use lib.Dec.{eqb}
 use lib.ListN.{getD, take}
 use Rattle.rules.specs.declared.Frame.{Frame}
 use Rattle.words.specs.Words.{if_then_else_}
-use Rattle.rules.specs.Session.{View, screen, view}
+use Rattle.rules.specs.Session.{View, view}
 use Rattle.rules.specs.Effect.{Effect, quiet}
 use Rattle.rules.specs.Telnet.{hostText}
 use Rattle.decide.specs.Writing.{controlOf}
@@ -23,7 +23,7 @@ controlAt v joins cr bytes at = if passedAt joins cr bytes at then quiet v else 
 -- what the first `at` bytes do
 pub record Texted (attrs : List ℕ) (joins cr : Bool) (bytes : List ℕ) (f₀ : Frame) (chars₀ : List ℕ) (at : ℕ) (f : Frame) (chars : List ℕ)
     : Type 0 where
-  pub done : Changes (hostText (view f₀ attrs) (obeyedBytes joins cr (take at bytes))) (screen chars₀ attrs) f chars
+  pub done : Changes (hostText (view f₀ attrs) (obeyedBytes joins cr (take at bytes))) chars₀ attrs f chars
 
 -- where the first `from` bytes lead to f and chars, the first `end` lead to f′ and chars′
 pub record TextStep (attrs bytes : List ℕ) (from : ℕ) (f : Frame) (chars : List ℕ) (end : ℕ) (f′ : Frame) (chars′ : List ℕ) : Type 0 where

@@ -9,28 +9,31 @@ pub struct Desk {
     pub session: Session,
     pub chars: Vec<u8>,
     pub attrs: Vec<u8>,
+    marks: Vec<u8>,
     reply: Vec<u8>,
 }
 
 impl Desk {
     pub fn open(width: usize, height: usize) -> Result<Desk, Refusal> {
         let cells = width * height;
-        let (mut chars, mut attrs) = (vec![0; cells], vec![0; cells]);
-        let session = terminal::open(width, height, &mut chars, &mut attrs);
+        let (mut chars, mut attrs, mut marks) = (vec![0; cells], vec![0; cells], vec![0; cells]);
+        let session = terminal::open(width, height, &mut chars, &mut attrs, &mut marks);
         Ok(Desk {
             session: session.map_err(|(refusal, _)| refusal)?,
             chars,
             attrs,
+            marks,
             reply: vec![0; reply_room(width, height)],
         })
     }
 
     /// Hands on all of the host's bytes; what goes back to the host.
     pub fn host(&mut self, mut input: &[u8]) -> Result<Vec<u8>, Refusal> {
-        let (chars, attrs, reply) = (&mut self.chars, &mut self.attrs, &mut self.reply);
+        let (chars, attrs, marks) = (&mut self.chars, &mut self.attrs, &mut self.marks);
+        let reply = &mut self.reply;
         let mut replies = Vec::new();
         while !input.is_empty() {
-            let counts = self.session.host_bytes(input, chars, attrs, reply)?;
+            let counts = self.session.host_bytes(input, chars, attrs, marks, reply)?;
             replies.extend(&reply[..counts.written]);
             input = &input[counts.taken..];
         }
@@ -39,8 +42,9 @@ impl Desk {
 
     /// Hands on a key; what goes to the host.
     pub fn key(&mut self, key: u32) -> Result<Vec<u8>, Refusal> {
-        let (chars, attrs, reply) = (&mut self.chars, &self.attrs, &mut self.reply);
-        let counts = self.session.key(key, chars, attrs, reply)?;
+        let (chars, attrs, marks) = (&mut self.chars, &self.attrs, &mut self.marks);
+        let reply = &mut self.reply;
+        let counts = self.session.key(key, chars, attrs, marks, reply)?;
         Ok(reply[..counts.written].to_vec())
     }
 

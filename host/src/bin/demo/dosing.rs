@@ -1,4 +1,6 @@
-//! The first story: a dosing form painted, filled in and sent.
+//! The first story: a dosing form painted, filled in, sent and corrected.
+
+use std::error::Error;
 
 use crate::desk::Desk;
 use crate::form::{self, FIELDS, NUMBER, WEIGHT};
@@ -27,7 +29,8 @@ pub fn tell(teller: &mut Teller) -> Done {
     dosing.delete()?;
     dosing.on_the_number()?;
     dosing.fill_in()?;
-    dosing.send()
+    let texts = dosing.send()?;
+    dosing.correct(&texts)
 }
 
 impl Dosing<'_> {
@@ -35,7 +38,7 @@ impl Dosing<'_> {
         self.say("1. The host paints the form and protects all of it but what is in brackets.")?;
         self.desk.host(&form::negotiate())?;
         let agreed = format!("{:x?}", self.desk.session.agreed_maps());
-        expect("agreed", &*agreed, "[7e, 1f, 3f, 90, 79]")?;
+        expect("agreed", &*agreed, "[7e, 1f, 3f, d0, 79]")?;
         self.desk.host(&form::paint())?;
         self.teller.screen(&self.desk)?;
         self.painted = self.desk.protected();
@@ -84,7 +87,8 @@ impl Dosing<'_> {
         self.show()
     }
 
-    fn send(&mut self) -> Done {
+    /// What the host has read, field by field.
+    fn send(&mut self) -> Result<Vec<String>, Box<dyn Error>> {
         self.say("6. The send key. The host reads the fields, and nothing that is protected:")?;
         let reply = self.desk.key(SEND)?;
         self.teller.bytes(&reply)?;
@@ -92,8 +96,30 @@ impl Dosing<'_> {
         for ((field, _), text) in FIELDS.iter().zip(&texts) {
             self.say(&format!("  {:8} \"{text}\"", field.name))?;
         }
-        let texts = texts.join("|");
-        expect("fields sent", &*texts, "70.5  |350   |8 |Ann             ")?;
+        let all = texts.join("|");
+        expect("fields sent", &*all, "70.5  |350   |8 |Ann             ")?;
+        self.teller.pause()?;
+        Ok(texts)
+    }
+
+    fn correct(&mut self, texts: &[String]) -> Done {
+        self.say("7. Later the host paints the form with what it has read. The operator corrects")?;
+        self.say("   the dose; then the host asks for what was touched, and reads that alone.")?;
+        self.desk.host(&form::paint_with(texts))?;
+        self.desk.key(TAB)?;
+        self.taken("400")?;
+        self.show_checked()?;
+        let all = self.desk.host(&form::ask_for_all())?;
+        let touched = self.desk.host(&form::ask_for_touched())?;
+        self.teller.bytes(&touched)?;
+        expect("field sent", &*form::texts(&touched).join("|"), "400   ")?;
+        let (sent, whole) = (touched.len(), all.len());
+        self.say(&format!(
+            "  {sent} bytes; asked for all fields, the terminal would send {whole}"
+        ))?;
+        expect("bytes", sent, 14)?;
+        let again = self.desk.host(&form::ask_for_touched())?;
+        expect("bytes when asked again", again.len(), 0)?;
         self.teller.pause()
     }
 
@@ -122,8 +148,13 @@ impl Dosing<'_> {
         self.say(&format!("  key {name}: {refusal}"))
     }
 
-    /// Shows the screen and checks every protected cell.
     fn show(&mut self) -> Done {
+        self.show_checked()?;
+        self.teller.pause()
+    }
+
+    /// Shows the screen and checks every protected cell.
+    fn show_checked(&mut self) -> Done {
         self.teller.screen(&self.desk)?;
         if self.desk.protected() != self.painted {
             return Err("a protected cell has changed".into());
@@ -132,7 +163,6 @@ impl Dosing<'_> {
         let checked = "protected cells are as the host painted them";
         self.say(&format!(
             "  checked: patient {number}; all {protected} {checked}"
-        ))?;
-        self.teller.pause()
+        ))
     }
 }

@@ -45,10 +45,13 @@ pub const FIELDS: [(Run, u8); 4] = [
 ];
 
 /// What the host can do: the four commands that say so, each with its map.
-const FACILITIES: [&[u8]; 4] = [&[1, 0x7e], &[2, 0x1f], &[3, 0x3f], &[4, 0x90, 0x79]];
+const FACILITIES: [&[u8]; 4] = [&[1, 0x7e], &[2, 0x1f], &[3, 0x3f], &[4, 0xd0, 0x79]];
 
 const MOVE_CURSOR: u8 = 5;
 const HOME: u8 = 12;
+const TRANSMIT_UNPROTECTED: u8 = 21;
+const TRANSMIT_MODIFIED: u8 = 27;
+const ERASE_SCREEN: u8 = 29;
 const FORMAT_DATA: u8 = 36;
 
 /// Turns option 20 on and sends the host's facility maps.
@@ -70,6 +73,29 @@ pub fn paint() -> Vec<u8> {
     }
     bytes.extend(subcommand(&[HOME]));
     bytes
+}
+
+/// Paints the form anew, with these texts in its fields. No field is touched
+/// then.
+pub fn paint_with(texts: &[String]) -> Vec<u8> {
+    let mut bytes = subcommand(&[ERASE_SCREEN]);
+    bytes.extend(paint());
+    for ((field, _), text) in FIELDS.iter().zip(texts) {
+        bytes.extend(move_cursor(field.x, field.y));
+        bytes.extend(text.as_bytes());
+    }
+    bytes.extend(subcommand(&[HOME]));
+    bytes
+}
+
+/// Asks for all fields.
+pub fn ask_for_all() -> Vec<u8> {
+    subcommand(&[TRANSMIT_UNPROTECTED])
+}
+
+/// Asks for those that were touched.
+pub fn ask_for_touched() -> Vec<u8> {
+    subcommand(&[TRANSMIT_MODIFIED])
 }
 
 pub fn move_cursor(x: u8, y: u8) -> Vec<u8> {

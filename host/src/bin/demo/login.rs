@@ -57,7 +57,7 @@ fn set(pairs: &[[u8; 2]]) -> Vec<u8> {
 
 impl Login<'_> {
     fn ask(&mut self) -> Done {
-        self.say("7. The host turns option 30 on: typing is echoed and edited here, and sent at")?;
+        self.say("8. The host turns option 30 on: typing is echoed and edited here, and sent at")?;
         self.say("   return. Then it asks for a name.")?;
         let bytes = [&turn_on(PAD), &set(&EDITED), WELCOME].concat();
         let reply = self.desk.host(&bytes)?;
@@ -66,20 +66,20 @@ impl Login<'_> {
     }
 
     fn slip(&mut self) -> Done {
-        self.say("8. The operator types the name, and slips. Nothing is sent.")?;
+        self.say("9. The operator types the name, and slips. Nothing is sent.")?;
         self.waits(b"mariw", "mariw")?;
         self.show()
     }
 
     fn correct(&mut self) -> Done {
-        self.say("9. Backspace takes the w off the line and off the screen; then the rest.")?;
+        self.say("10. Backspace takes the w off the line and off the screen; then the rest.")?;
         self.waits(&[BS], "mari")?;
         self.waits(b"e.ott", "marie.ott")?;
         self.show()
     }
 
     fn send(&mut self) -> Done {
-        self.say("10. Return. The host reads the name as it was meant, all at once:")?;
+        self.say("11. Return. The host reads the name as it was meant, all at once:")?;
         let sent = self.key(CR)?;
         self.teller.bytes(&sent)?;
         expect("sent", &*text(&sent), "marie.ott\r\0")?;
@@ -89,7 +89,7 @@ impl Login<'_> {
 
     fn password(&mut self) -> Done {
         self.say(
-            "11. The host turns echo off and asks for the password. It is typed unseen, with",
+            "12. The host turns echo off and asks for the password. It is typed unseen, with",
         )?;
         self.say("    a slip and backspace as before, then return.")?;
         self.desk.host(&[&set(&UNSEEN), PASSWORD].concat())?;

@@ -96,7 +96,10 @@ impl Generator {
 
     /// With so many calls left, which a full line may exceed.
     fn pad_step(&mut self, left: usize) {
-        match self.rng.weighted(&[40, 34, 2, 6, 5, 3, 6, 3, 5, 4, 2, 4]) {
+        match self
+            .rng
+            .weighted(&[40, 34, 2, 6, 5, 3, 6, 3, 5, 4, 2, 2, 4])
+        {
             0 => self.typing(),
             1 => self.pad_stream(),
             2 if left > 150 => self.full_line(),
@@ -109,6 +112,7 @@ impl Generator {
             8 => self.set_cursor(),
             9 => self.set_suppress(),
             10 => self.set_attrs(),
+            11 => self.set_marks(),
             _ => self.parted(),
         }
     }

@@ -1,4 +1,4 @@
--- `open` meets its contract: refused, it changes nothing; else every cell is a space and every attribute byte 0.
+-- `open` meets its contract: refused, it changes nothing; else every cell is a space, every attribute byte 0 and no cell marked.
 use native.Mathlib.Omega.{arith}
 use borrow.Author.Needs.{needs}
 use Rattle.command.proofs.RefusalLaws.{not-taken}
@@ -11,14 +11,17 @@ open-spec =
     tie.close
     (tie.spec
     (λ c κs. search needs) (λ c. search needs) (λ c κs. search needs) (λ c κs. search needs) (λ c. search needs) (λ c. search needs)
+    (λ c. search needs)
     (λ c. let b = c .before .before .before in
     open-refused _ _ _ (b .refuse-sizes .ensures) (not-taken (b .refuse-sizes .result) (c .before .before .match .keys2))
     (c .before .fresh-session .ensures) (c .refused .ensures))
     (λ c. let z = open-sizes _ _ _ (c .before .before .refuse-sizes .ensures) (c .enum-told .given .1) in omega arith)
     (λ c. let z = open-sizes _ _ _ (c .before .before .refuse-sizes .ensures) (c .enum-told .given .1) in omega arith)
-    (λ c κs. search needs) (λ c κs. search needs) (λ c κs. search needs) (λ c. search needs) (λ c. search needs)
-    (λ c. let f = c .before .before in
+    (λ c κs. search needs) (λ c κs. search needs) (λ c κs. search needs) (λ c κs. search needs) (λ c. search needs) (λ c. search needs)
+    (λ c. search needs)
+    (λ c. let k = c .before .before in
+    let f = k .before .before .before .before in
     let s = f .before .before .before .before in
     let b = s .before .before .before in
     open-done _ _ _ (b .before .before .before .refuse-sizes .ensures) (b .before .enum-told .given .1) (b .fresh-session2 .ensures) (s .erase .ensures)
-    (f .format .ensures)))
+    (f .fill .ensures) (k .fill2 .ensures)))

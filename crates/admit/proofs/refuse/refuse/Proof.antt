@@ -16,4 +16,4 @@ refuse-spec =
     (λ c. let e = c .before .refuse-sizes .ensures in e ∙ sym (failed-first _ _ (rw (← e) (not-taken (c .before .refuse-sizes .result) (c .match .keys2)))))
     (λ c κs. search needs)
     (λ c. let b = c .before in
-    c .refuse-state .ensures ∙ sym (passed-on _ _ refl (sym (b .before .before .refuse-sizes .ensures) ∙ b .enum-told .given .1))))
+    c .refuse-state .ensures _ ∙ sym (passed-on _ _ refl (sym (b .before .before .refuse-sizes .ensures) ∙ b .enum-told .given .1))))

@@ -1,4 +1,4 @@
--- `reply_room` meets its contract: seven times the product of two bytes fits.
+-- `reply_room` meets its contract: nine times the product of two bytes fits.
 use mathlib.Core.Path.{refl}
 use native.Mathlib.Omega.{arith}
 use borrow.Author.Needs.{needs}
@@ -11,7 +11,6 @@ reply-room-spec =
     tie.close
     (tie.spec
     (λ c. search needs) (λ c. search needs)
-    (λ c. omega (arith, byte-product {a = c .before .before .args .frame .height} {b = c .before .before .args .frame .width} (omega arith) (omega arith)))
     (λ c. omega (arith, byte-product {a = c .before .before .args .frame .height} {b = c .before .before .args .frame .width} (omega arith) (omega arith)))
     (λ c. omega (arith, byte-product {a = c .before .before .args .frame .height} {b = c .before .before .args .frame .width} (omega arith) (omega arith)))
     (λ c. refl))

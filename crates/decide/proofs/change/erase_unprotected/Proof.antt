@@ -1,7 +1,6 @@
 -- `erase_unprotected` meets its contract.
 use mathlib.Core.Path.{refl}
 use Rattle.rules.specs.Subcommand.{erasure}
-use Rattle.decide.proofs.DecideLaws.{decides}
 use borrow.Author.Needs.{needs}
 use Rattle.decide.proofs.change.erase_unprotected.Statement.{statement}
 use Rattle.decide.proofs.change.erase_unprotected.Tie as tie
@@ -11,5 +10,5 @@ unfolding erasure
 erase-unprotected-spec =
     tie.close
     (tie.spec
-    (λ c κs. search needs) (λ c κs. search needs)
-    (λ c. rw (c .editing .ensures, c .before .sent-to .ensures) (record { meaning = refl; sendable = tt })))
+    (λ c κs. search needs)
+    (λ c. rw (c .sent-to .ensures) (record { meaning = refl; sendable = tt })))

@@ -45,25 +45,29 @@ transmit : tie.Need-returns-9
 unfolding obeyed
 transmit c = rw (c .before .before .command5 .given .1) (c .transmit .ensures)
 
-erase : tie.Need-returns-10
+transmit-modified : tie.Need-returns-10
+unfolding obeyed
+transmit-modified c = rw (c .before .enum-told5 .given .1) (c .send-modified .ensures)
+
+erase : tie.Need-returns-11
 unfolding obeyed
 erase c = rw (c .before .before .command6 .given .1) (c .erase .ensures)
 
-format-data : tie.Need-returns-11
+format-data : tie.Need-returns-12
 unfolding obeyed
-format-data c = rw (c .before .enum-told5 .given .1) (c .format-data .ensures _)
+format-data c = rw (c .before .enum-told6 .given .1) (c .format-data .ensures _)
 
-repeat : tie.Need-returns-12
+repeat : tie.Need-returns-13
 unfolding obeyed
-repeat c = rw (c .before .before .before .enum-told6 .given .1, c .editing .ensures, c .before .second-parameter .ensures, c .before .before .first-parameter3 .ensures) repeated
+repeat c = rw (c .before .before .before .enum-told7 .given .1, c .editing .ensures, c .before .second-parameter .ensures, c .before .before .first-parameter3 .ensures) repeated
 
-suppress-protection : tie.Need-returns-13
+suppress-protection : tie.Need-returns-14
 unfolding obeyed
-suppress-protection c = rw (c .before .before .enum-told7 .given .1, ← c .before .first-parameter4 .ensures) (c .suppress .ensures _)
+suppress-protection c = rw (c .before .before .enum-told8 .given .1, ← c .before .first-parameter4 .ensures) (c .suppress .ensures _)
 
-error : tie.Need-returns-14
+error : tie.Need-returns-15
 unfolding obeyed
-error c = rw (c .before .enum-told8 .given .1, c .quiet5 .ensures) (record { meaning = refl; sendable = tt })
+error c = rw (c .before .enum-told9 .given .1, c .quiet5 .ensures) (record { meaning = refl; sendable = tt })
 
 pub obey-spec : {M : Type 1} → statement M
 obey-spec =
@@ -73,8 +77,9 @@ obey-spec =
     (λ c. search needs) (λ c κs. search needs) (λ c κs. search needs) (λ c κs. search needs) (λ c. search needs)
     (λ c κs. search needs) (λ c κs. search needs) (λ c κs. search needs) (λ c. search needs) (λ c κs. search needs)
     (λ c κs. search needs) (λ c. search needs) (λ c κs. search needs) (λ c. search needs) (λ c κs. search needs)
+    (λ c. search needs) (λ c κs. search needs)
     (λ c. search needs) (λ c κs. search needs) (λ c. search needs) (λ c κs. search needs) (λ c. search needs)
     (λ c κs. search needs) (λ c. search needs) (λ c κs. search needs) (λ c. search needs) (λ c κs. search needs)
     (λ c κs. search needs) (λ c κs. search needs) (λ c. search needs) (λ c κs. search needs) (λ c κs. search needs)
     (λ c. search needs) (λ c κs. search needs)
-    facilities move-cursor skip-to-line skip-to-char move line-shift char-shift read-cursor transmit erase format-data repeat suppress-protection error)
+    facilities move-cursor skip-to-line skip-to-char move line-shift char-shift read-cursor transmit transmit-modified erase format-data repeat suppress-protection error)

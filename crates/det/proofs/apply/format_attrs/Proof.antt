@@ -8,4 +8,4 @@ format-attrs-spec =
     tie.close
     (tie.spec
     (λ c. search needs) (λ c. search needs) (λ c κs. search needs) (λ c. search needs) (λ c. search needs)
-    (λ c. let p = c .before .before in rw (p .before .before .before .change .given .1) (p .format .ensures)))
+    (λ c. let p = c .before .before in rw (p .before .before .before .change .given .1) (p .fill .ensures)))

@@ -10,10 +10,10 @@ refuse-press-spec =
     tie.close
     (tie.spec
     (λ c κs. search needs) (λ c κs. search needs)
-    (λ c chars. let i = c .before .before in
+    (λ c chars marks. let i = c .before .before in
     let a = i .before .before .before .args in
-    line-refusal (state (a .session) (screen chars (a .attrs .now))) (a .code) (i .before .takes-key .ensures) (i .if1 .taken) (c .refuse-line .ensures))
+    line-refusal (state (a .session) (screen chars (a .attrs .now) marks)) (a .code) (i .before .takes-key .ensures) (i .if1 .taken) (c .refuse-line .ensures))
     (λ c κs. search needs) (λ c κs. search needs)
-    (λ c chars. let i = c .before .before in
+    (λ c chars marks. let i = c .before .before in
     let a = i .before .before .before .args in
-    meaning-refusal (state (a .session) (screen chars (a .attrs .now))) (a .code) (i .before .takes-key .ensures) (i .if1 .left) (c .before .key-of .ensures) (c .refuse-pressed .ensures)))
+    meaning-refusal (state (a .session) (screen chars (a .attrs .now) marks)) (a .code) (i .before .takes-key .ensures) (i .if1 .left) (c .before .key-of .ensures) (c .refuse-pressed .ensures)))

@@ -9,9 +9,9 @@ take-key-spec =
     tie.close
     (tie.spec
     (λ c κs. search needs)
-    (λ c κs. let i = c .before .before in (i .before .before .before .before .before .pre, sym (i .before .takes-key .ensures) ∙ i .if1 .taken))
-    (λ c. search needs) (λ c. search needs)
+    (λ c κs. let i = c .before .before .before in (i .before .before .before .before .before .before .pre, sym (i .before .takes-key .ensures) ∙ i .if1 .taken))
+    (λ c. search needs) (λ c. search needs) (λ c. search needs)
     (λ c. c .before .before .before .before .take-line .ensures)
-    (λ c κs. let i = c .before .before in (i .before .before .before .before .before .pre, sym (i .before .takes-key .ensures) ∙ i .if1 .left))
-    (λ c. search needs) (λ c. search needs)
-    (λ c. c .before .before .before .before .take-meaning .ensures))
+    (λ c κs. let i = c .before .before .before in (i .before .before .before .before .before .before .pre, sym (i .before .takes-key .ensures) ∙ i .if1 .left))
+    (λ c. search needs) (λ c. search needs) (λ c. search needs)
+    (λ c. c .before .before .before .before .before .before .take-meaning .ensures))

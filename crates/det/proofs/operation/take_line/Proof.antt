@@ -11,5 +11,5 @@ take-line-spec =
     (λ c κs. search needs) (λ c κs. search needs) (λ c κs. search needs) (λ c. search needs) (λ c. search needs)
     (λ c. let e = c .before .before .before in
     let s = e .before .before .before .before in
-    let start = s .before .before .before .before .before .before .before in
+    let start = s .before .before .before .before .before .before .before .before in
     line-settled _ _ _ (start .pre .0) (start .pre .1) (s .send-line .ensures) (e .echo-key .ensures) (c .type-key .ensures)))

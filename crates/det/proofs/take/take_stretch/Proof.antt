@@ -11,6 +11,6 @@ take-stretch-spec =
     tie.close
     (tie.spec
     (λ c. search needs) (λ c κs. search needs) (λ c. search needs) (λ c κs. search needs) (λ c. search needs) (λ c. search needs)
-    (λ c. c .take-payload .ensures _ _)
-    (λ c p prints. let start = c .before .before .before .before in
+    (λ c marks. c .take-payload .ensures _ _)
+    (λ c marks p prints. let start = c .before .before .before .before in
     record { run = run-none (omega (arith, start .pre .1)); same = refl; nothing = refl; stands = start .pre .0; x3 = refl }))

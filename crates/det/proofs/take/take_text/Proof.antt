@@ -15,7 +15,7 @@ take-text-spec =
     (λ c. lies (c .before .before .before .before .pre .1) _ (c .data-at .ensures) .onward)
     (λ c. let l = lies (c .before .before .before .before .pre .1) _ (c .data-at .ensures) in omega (arith, l .forth, l .within))
     (λ c κs. search needs) (λ c. search needs)
-    (λ c p prints. let t = c .before .before .before .before in
+    (λ c marks p prints. let t = c .before .before .before .before in
     let s = t .before .before .before in
     let start = s .before .before .before .before in
     let done = t .take-bytes .ensures in

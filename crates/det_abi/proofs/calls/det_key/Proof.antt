@@ -17,14 +17,15 @@ det-key-spec =
     (λ c κs. search needs)
     (λ c κs. search needs)
     (λ c κs. search needs)
-    (λ c κs. let k = c .before .before .before .before .before .before .before in
-    let i = k .before .before .before .before .before .before in
+    (λ c κs. let k = c .before .before .before .before .before .before .before .before .before in
+    let i = k .before .before .before .before .before .before .before in
     session-length _ (passing (i .before .is-session .ensures) (i .if1 .left)))
     (λ c. search needs)
     (λ c. search needs)
     (λ c. search needs)
+    (λ c. search needs)
     (λ c. let g = c .before .before in
-    let k = g .before .before .before .before .before .before .before .before in
-    let b = k .before .before .before in
+    let k = g .before .before .before .before .before .before .before .before .before .before in
+    let b = k .before .before .before .before in
     let i = b .before .before .before in
     key-done _ _ _ (i .before .is-session .ensures) (i .if1 .left) (b .before .decode .ensures) (g .give .ensures) _ (b .key-byte .ensures) (k .key .ensures)))

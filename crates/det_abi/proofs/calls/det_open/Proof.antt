@@ -14,6 +14,7 @@ det-open-spec =
     (λ c. search needs)
     (λ c. search needs)
     (λ c. search needs)
+    (λ c. search needs)
     (λ c. let t = c .before .before in
-    let o = t .before .before .before .before .before .before in
-    open-done _ _ _ _ (o .before .before .before .if1 .left) (o .«open» .ensures) (t .tell .ensures .0) (t .tell .ensures .1)))
+    let o = t .before .before .before .before .before .before .before .before in
+    open-done _ _ _ _ (o .before .before .before .before .if1 .left) (o .«open» .ensures) (t .tell .ensures .0) (t .tell .ensures .1)))

@@ -10,7 +10,7 @@ erase-spec =
     (tie.spec
     (search needs) (search needs) (search needs)
     (λ c. let f = c .before .before in
-    rw (f .before .before .if1 .taken) (f .format .ensures ∙ erased-all _ _ _ _))
+    rw (f .before .before .if1 .taken) (f .fill .ensures ∙ erased-all _ _ _ _))
     (search needs)
     (λ c. let e = c .before .before in
     rw (e .before .before .if1 .left) (e .erase-unprotected .ensures)))

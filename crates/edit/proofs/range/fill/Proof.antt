@@ -1,18 +1,18 @@
--- `format` meets its contract: the cells below i are done.
+-- `fill` meets its contract: the cells below i are done.
 use Rattle.edit.proofs.Kit.{_-_, _≤_, arith, needs}
 use Rattle.screen.specs.Words.{inRange}
-use Rattle.edit.specs.Edits.{formatted}
+use Rattle.edit.specs.Edits.{filled}
 use Rattle.edit.proofs.ListLaws.{Storing, storing-start, storing-hit, storing-end, in-range, before-range, after-range}
-use Rattle.edit.proofs.range.format.Statement.{statement}
-use Rattle.edit.proofs.range.format.Tie as tie
+use Rattle.edit.proofs.range.fill.Statement.{statement}
+use Rattle.edit.proofs.range.fill.Tie as tie
 
-pub format-spec : {M : Type 1} → statement M
-unfolding formatted
-format-spec =
+pub fill-spec : {M : Type 1} → statement M
+unfolding filled
+fill-spec =
     tie.close
     (tie.spec
-    (λ attrs₀ from end attr stop i₀ attrs i. (from ≤ i) × Storing (inRange from end) attr 8 attrs₀ i attrs)
-    (λ attrs₀ from end attr stop i₀ attrs i. stop - i)
+    (λ bytes₀ from end byte stop i₀ bytes i. (from ≤ i) × Storing (inRange from end) byte 0 bytes₀ i bytes)
+    (λ bytes₀ from end byte stop i₀ bytes i. stop - i)
     (search needs)
     (λ c. (omega arith, storing-start (before-range _ _)))
     (search needs) (search needs) (search needs)

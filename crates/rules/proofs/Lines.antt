@@ -28,6 +28,10 @@ free title y trials = case title (lines false (replicate 9 0) y) trials
 abbrev shutAt : String → ℕ → Bool → ℕ → List Trial → Case
 shutAt title cell suppressed y trials = case title (lines suppressed (replicate cell 0 ++ (8 ∷ replicate (8 - cell) 0)) y) trials
 
+-- four wide and two high, "abcd" over "efgh", the cursor at (1,1)
+abbrev wide : String → List Trial → Case
+wide title trials = case title (starting 4 2 false (characters "abcdefgh") (replicate 8 0) 1 1) trials
+
 abbrev form : String → List Trial → Case
 form title trials = case title (startF 3 0) trials
 
@@ -58,6 +62,7 @@ lines-cases =
     ∷ shutAt "a guarded cell before the cursor in its line stops them" 3 false 1 (does (13 ∷ []) unchanged [] ∷ does (14 ∷ []) unchanged [] ∷ [])
     ∷ shutAt "a guarded cell in a line above does not" 2 false 1 (shows 14 "ABCGHI   " ∷ shows 13 "ABC   GHI" ∷ [])
     ∷ shutAt "while suppressed a protected character moves, its attribute stays" 8 true 1 (shows 14 "ABCGHI   " ∷ [])
+    ∷ wide "a line is as long as the screen is wide" (shows 14 "abcd    " ∷ shows 13 "abcd    " ∷ [])
     ∷ form "6 goes round the lines" (skips (6 ∷ 3 ∷ []) 3 1 ∷ skips (6 ∷ 0 ∷ []) 3 0 ∷ skips (6 ∷ 2 ∷ []) 3 0 ∷ skips (6 ∷ 255 ∷ 255 ∷ []) 3 1 ∷ [])
     ∷ form "7 in the line" (skips (7 ∷ 7 ∷ []) 7 0 ∷ skips (7 ∷ 2 ∷ []) 2 0 ∷ [])
     ∷ form "7 goes round the line, and down by DIV N" (skips (7 ∷ 9 ∷ []) 1 0 ∷ skips (7 ∷ 10 ∷ []) 2 1 ∷ skips (7 ∷ 255 ∷ 255 ∷ []) 7 0 ∷ [])
@@ -67,7 +72,7 @@ lines-cases =
 
 pub lines-pass : Passes lines-cases
 unfolding computing seeing lines-cases
-lines-pass = (tt, (tt, (tt, (tt, (tt, (tt, (tt, (tt, (tt, (tt, (tt, (tt, (tt, tt)))))))))))))
+lines-pass = (tt, (tt, (tt, (tt, (tt, (tt, (tt, (tt, (tt, (tt, (tt, (tt, (tt, (tt, tt))))))))))))))
 
 pub lines-hold : observed lines-cases ≡ expected lines-cases
 lines-hold = each-equal lines-cases lines-pass

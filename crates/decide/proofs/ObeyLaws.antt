@@ -120,7 +120,7 @@ repeat-silent zero v c = refl
 repeat-silent (suc n) v c = refl
 
 -- nor does it mark
-pub repeat-unmarked : (n : ℕ) (v : View) (c : ℕ) → (hostCharacters n v c) .marks ≡ kept
+pub repeat-unmarked : (n : ℕ) (v : View) (c : ℕ) → (hostCharacters n v c) .marking ≡ kept
 unfolding hostCharacters
 repeat-unmarked zero v c = refl
 repeat-unmarked (suc n) v c = refl
@@ -129,7 +129,7 @@ pub repeated : {v : View} {n c : ℕ} → Decides v (decision (v .frame) (edit.R
 repeated {v} {n} {c} = record { meaning = as-shown (hostCharacters n v c) (repeat-attrs n v c) (repeat-silent n v c); sendable = tt }
   where
     as-shown : (e : Effect) → e .view .attrs ≡ v .attrs → e .reply ≡ []
-        → record { view = withAttrs (e .view) (v .attrs); changes = e .changes; marks = e .marks; reply = []; executed = [] } ≡ shown e
+        → record { view = withAttrs (e .view) (v .attrs); changes = e .changes; marking = e .marking; reply = []; executed = [] } ≡ shown e
     as-shown e p q = rw (← p, q)
 
 -- ---- ERRORs

@@ -52,14 +52,14 @@ meant attrs d =
     record {
       view = withAttrs (e .view) (attrsOf (d .format) attrs);
       changes = e .changes;
-      marks = if d .clear then cleared else e .marks;
+      marking = if d .clear then cleared else e .marking;
       reply = partsOf attrs (d .say);
       executed = [];
     }
 
 -- an effect but for the commands that it executes, which no answer tells
 abbrev pub shown : Effect → Effect
-shown e = record { view = e .view; changes = e .changes; marks = e .marks; reply = e .reply; executed = [] }
+shown e = record { view = e .view; changes = e .changes; marking = e .marking; reply = e .reply; executed = [] }
 
 -- a text that is sent lies on the screen; for the prefaces of 27, a byte can number the line of every cell
 abbrev pub Sendable : List ℕ → Say → Type 0

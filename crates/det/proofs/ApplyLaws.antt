@@ -10,7 +10,7 @@ use denote.Enum.Declared.{tagOf}
 use Rattle.words.proofs.Laws.{either}
 use Rattle.rules.specs.declared.Frame.{Frame}
 use Rattle.rules.specs.Session.{View, view}
-use Rattle.rules.specs.Effect.{Effect, changedAll, marking, changing}
+use Rattle.rules.specs.Effect.{Effect, changedAll, marksAfter, changing}
 use Rattle.rules.specs.Telnet.{hostCharacter, hostCharacters}
 use Rattle.rules.specs.Cursor.{cursorGuarded}
 use Rattle.rules.proofs.Characters.{changed-append}
@@ -18,7 +18,7 @@ use Rattle.decide.proofs.decision.Edit.{the-type}
 use Rattle.decide.specs.declared.decision.Edit.{Edit}
 use Rattle.decide.specs.declared.decision.Edit.the-variants.{Nothing, Put, Erase, Shift, Repeat}
 use Rattle.decide.specs.Decision.{edited}
-use Rattle.decide.specs.inner.Decision.{changesOf, marksOf, Once}
+use Rattle.decide.specs.inner.Decision.{changesOf, markingOf, Once}
 use Rattle.text.specs.Text.{Changes}
 
 -- what the other arm of a match on Repeat knows
@@ -41,18 +41,18 @@ unfolding changedAll
 changes-none f chars attrs = changes-once Nothing (λ v. refl) refl
 
 -- what an edit marks
-pub marks-of : (v : View) (edit : Edit) → (edited v edit) .marks ≡ marksOf edit
+pub marking-of : (v : View) (edit : Edit) → (edited v edit) .marking ≡ markingOf edit
 unfolding hostCharacters
-marks-of v Nothing = refl
-marks-of v (Put cell c) = refl
-marks-of v (Erase suppressed from end) = refl
-marks-of v (Shift s from end by) = refl
-marks-of v (Repeat zero c) = refl
-marks-of v (Repeat (suc n) c) = refl
+marking-of v Nothing = refl
+marking-of v (Put cell c) = refl
+marking-of v (Erase suppressed from end) = refl
+marking-of v (Shift s from end by) = refl
+marking-of v (Repeat zero c) = refl
+marking-of v (Repeat (suc n) c) = refl
 
 -- all but a typed character and a shift mark nothing
-pub marks-none : (edit : Edit) (marks : List ℕ) → OneOf (0 ∷ 2 ∷ 4 ∷ []) (tagOf the-type edit) → marks ≡ marking marks (marksOf edit)
-unfolding marking
+pub marks-none : (edit : Edit) (marks : List ℕ) → OneOf (0 ∷ 2 ∷ 4 ∷ []) (tagOf the-type edit) → marks ≡ marksAfter marks (markingOf edit)
+unfolding marksAfter
 marks-none Nothing marks h = refl
 marks-none (Put cell c) marks h = absurd (miss (0 ∷ 2 ∷ 4 ∷ []) 1 tt h)
 marks-none (Erase suppressed from end) marks h = refl

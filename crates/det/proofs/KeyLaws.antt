@@ -15,7 +15,7 @@ use Rattle.rules.specs.declared.Frame.{Frame}
 use Rattle.rules.specs.declared.Pad.{Pad}
 use Rattle.rules.specs.Session.{State, View, session, screen, view, viewOf}
 use Rattle.rules.specs.Refusal.{isTaken, verdict, sizeTests, stateTests}
-use Rattle.rules.specs.Effect.{Effect, changedAll, cleared, marking, spelled, spelledAll}
+use Rattle.rules.specs.Effect.{Effect, changedAll, cleared, marksAfter, spelled, spelledAll}
 use Rattle.rules.specs.Cursor.{cursorGuarded}
 use Rattle.rules.specs.Telnet.{hostText}
 use Rattle.rules.specs.Pad.{takesKey, lineTests, padTyped, sentAt, echoedAt, typedTo}
@@ -27,7 +27,7 @@ use Rattle.rules.proofs.Sound.{Accepted, sound-of, passes}
 use Rattle.rules.proofs.Room.{room-key}
 use Rattle.decide.specs.declared.decision.Decision.{Decision}
 use Rattle.decide.specs.Decision.{edited, partsOf, meant, shown, Decides, whereFits}
-use Rattle.decide.specs.inner.Decision.{marksOf}
+use Rattle.decide.specs.inner.Decision.{markingOf}
 use Rattle.decide.specs.Writing.{pressedIfTaken}
 use Rattle.reply.specs.Written.{Wrote}
 use Rattle.reply.specs.Pieces.{sayPieces}
@@ -43,7 +43,7 @@ use Rattle.admit.proofs.RefuseLaws.{passed-on, failed-first}
 use Rattle.decide.proofs.DecideLaws.{fits-rule}
 use Rattle.decide.proofs.WriteLaws.{pressed-was}
 use Rattle.det.proofs.TakeLaws.{accepts-fits, sayable}
-use Rattle.det.proofs.ApplyLaws.{marks-of}
+use Rattle.det.proofs.ApplyLaws.{marking-of}
 
 -- the refusal of a key: of every call, or else its own
 module _ (s : State) (reply : List ℕ) (code : ℕ) {why : Refusal} (e : why ≡ hostRefusal s reply) where
@@ -104,10 +104,10 @@ module _ (s : State) (reply : List ℕ) (code : ℕ) (p : keyRefusal s reply cod
     parts = ap (λ (o : Effect). o .reply) key-means
 
     -- what it marks
-    key-marks : marking (s .screen .marks) (if d .clear then cleared else marksOf (d .edit))
-        ≡ marking (s .screen .marks) ((pressed (viewOf s) (keyOf code)) .marks)
+    key-marks : marksAfter (s .screen .marks) (if d .clear then cleared else markingOf (d .edit))
+        ≡ marksAfter (s .screen .marks) ((pressed (viewOf s) (keyOf code)) .marking)
     key-marks =
-        rw (← marks-of (view (d .frame) (s .screen .attrs)) (d .edit)) (ap (λ (x : Effect). marking (s .screen .marks) (x .marks)) key-means)
+        rw (← marking-of (view (d .frame) (s .screen .attrs)) (d .edit)) (ap (λ (x : Effect). marksAfter (s .screen .marks) (x .marking)) key-means)
 
     -- the reply can be written
     key-sayable : Sayable (d .say) (s .screen) reply 0
@@ -117,7 +117,7 @@ module _ (s : State) (reply : List ℕ) (code : ℕ) (p : keyRefusal s reply cod
     pub key-settled : {f : Frame} {chars marks reply′ : List ℕ} {written : ℕ} → let b = s .screen in
         Wrote reply 0 (sayPieces (b .chars) (b .attrs) (b .marks) (d .say)) reply′ written
         → Changes (edited (view (d .frame) (b .attrs)) (d .edit)) (b .chars) (b .attrs) f chars
-        → marks ≡ marking (b .marks) (if d .clear then cleared else marksOf (d .edit))
+        → marks ≡ marksAfter (b .marks) (if d .clear then cleared else markingOf (d .edit))
         → outcome (record { session = session f (s .session .reader) (s .session .pad); refusal = Taken; taken = 1; written = written })
         (screen chars (s .screen .attrs) marks) reply′
         ≡ keyTaken s reply code
@@ -148,11 +148,11 @@ module _ (s : State) (reply : List ℕ) (code : ℕ) (p : keyRefusal s reply cod
         → outcome (record { session = session f (s .session .reader) pad; refusal = Taken; taken = 1; written = written })
         (screen chars (s .screen .attrs) (s .screen .marks)) reply′
         ≡ keyTaken s reply code
-    unfolding typedTo spelledAll spelled marking
+    unfolding typedTo spelledAll spelled marksAfter
     line-settled e c q =
         let whole = emitted-whole (omega (arith, line-room)) e in
         let written = e .next ∙ zero-add _ in
         rw (on, append-nil) (λ i. outcome
         (record { session = session ((c .frame) i) (s .session .reader) (q i); refusal = Taken; taken = 1; written = written i })
         (screen ((c .characters) i) (sym (text-keeps (viewOf s) (echoedAt (s .session .pad) code)) i)
-        (marking (s .screen .marks) (sym (text-marks (viewOf s) (echoedAt (s .session .pad) code)) i))) (whole i))
+        (marksAfter (s .screen .marks) (sym (text-marks (viewOf s) (echoedAt (s .session .pad) code)) i))) (whole i))

@@ -1,9 +1,8 @@
 -- Laws of a byte of a message of option 30: it is read and told, and a SEND that ends is answered.
-use mathlib.Core.Path.{_≡_, refl, ap, _∙_}
+use mathlib.Core.Path.{_≡_, refl}
 use mathlib.Core.Bool.{Bool, true, false, _&&_}
 use mathlib.Core.List.{List, [], _∷_, append-nil}
 use Prim.Native.Nat.{ℕ, _+_, _<_}
-use native.Mathlib.Omega.{arith}
 use borrow.Author.Tests.{eqb-true}
 use lib.Dec.{eqb}
 use lib.ListN.{length, getD}
@@ -26,10 +25,10 @@ use Rattle.rules.specs.declared.Frame.{Frame}
 use Rattle.rules.specs.declared.Reader.{Reader}
 use Rattle.rules.specs.declared.Pad.{Pad}
 use Rattle.rules.specs.Number.{x3Option}
-use Rattle.rules.specs.Session.{Screen, State, View, session, state, view}
-use Rattle.rules.specs.Effect.{Effect, bytes, changedAll, marking, spelled, spelledAll, saying}
-use Rattle.rules.specs.Pad.{isX3, counts, padAfter, response}
-use Rattle.rules.specs.Operation.{happening, hostByte, readerAfter}
+use Rattle.rules.specs.Session.{Screen, View, session, state, view}
+use Rattle.rules.specs.Effect.{bytes, changedAll, marksAfter, spelled, spelledAll, saying}
+use Rattle.rules.specs.Pad.{isX3, response}
+use Rattle.rules.specs.Operation.{happening, hostByte}
 use Rattle.reply.specs.Written.{Wrote}
 use Rattle.reply.specs.Pieces.{messagePieces}
 use Rattle.reply.proofs.ReplyLaws.{wrote-emitted, responded}
@@ -103,7 +102,7 @@ module _ (f : Frame) (r : Reader) (p : Pad) (b : Screen) (reply : List ℕ) (at 
     (i : inMessage (r .phase) ≡ true) {input : List ℕ} {from : ℕ} (h : from < length input) where
   pub message-taking : {t : PadTurn} {reply′ : List ℕ} → Reads f r p (getD input from 0) reply at t reply′
       → Taking (state (session f r p) b) input from reply at (state (session f (t .reader) (t .pad)) b) (from + 1) reply′ (t .written)
-  unfolding hostByte changedAll marking
+  unfolding hostByte changedAll marksAfter
   message-taking {t} k =
       let byte = getD input from 0 in
       let s = state (session f r p) b in

@@ -1,9 +1,9 @@
 -- Demand 3 carried to the code, proved: a chain of results that the contracts allow has the rules' answers and end.
 use mathlib.Core.Path.{_≡_, refl}
-use mathlib.Core.List.{List, [], _∷_, map}
+use mathlib.Core.List.{List, map}
 use Rattle.rules.specs.Session.{State}
 use Rattle.rules.specs.Operation.{Outcome}
-use Rattle.rules.specs.Call.{Call, host, key, called, left, answered, answersOf, stateAfter}
+use Rattle.rules.specs.Call.{Call, host, key, called, answered, answersOf, stateAfter}
 use Rattle.rules.proofs.Noninterference.{noninterference}
 use Rattle.det.specs.Noninterference.{Meets, Chain, done, next, end, CodeNoninterference}
 

@@ -7,7 +7,6 @@ use native.Mathlib.Omega.{arith}
 use borrow.Author.Tests.{ne-eqb}
 use lib.Dec.{ltb, eqb}
 use lib.ListN.{length, getD}
-use Rattle.words.specs.Words.{if_then_else_}
 use Rattle.words.proofs.Laws.{either, true-or-false}
 use Rattle.telnet.specs.declared.Phase.{Phase}
 use Rattle.telnet.specs.declared.Phase.the-variants.{Rest, Iac, Negotiating, Opening, OpeningIac, Inside, InsideIac}
@@ -27,7 +26,7 @@ use Rattle.rules.specs.declared.Frame.{Frame}
 use Rattle.rules.specs.declared.Reader.{Reader}
 use Rattle.rules.specs.declared.Pad.{Pad}
 use Rattle.rules.specs.Session.{noneHeld, Screen, State, View, lineTakesKeys, session, screen, state, view}
-use Rattle.rules.specs.Effect.{Effect, changedAll, marking, spelledAll, quiet}
+use Rattle.rules.specs.Effect.{Effect, changedAll, marksAfter, spelledAll, quiet}
 use Rattle.rules.specs.Telnet.{holding, heldAfter, crAfter, hostData, hostText}
 use Rattle.rules.specs.Pad.{isX3, withMessage, padAfter, joins, passes}
 use Rattle.rules.specs.Operation.{Ran, happening, hostByte, applied, running}
@@ -59,33 +58,33 @@ text-x3 v xs = ap (λ (w : View). w .frame .x3) (text-moves v xs)
 module _ (f : Frame) (held : Held) (cr : Bool) (p : Pad) (b : Screen) where
   -- IAC, at rest and in a subnegotiation
   rest-iac : hostByte (standing f Rest held cr p b) 255 ≡ still (standing f (readOf Rest 255 .phase) held cr p b)
-  unfolding hostByte happening heldAfter crAfter padAfter readOf changedAll spelledAll marking
+  unfolding hostByte happening heldAfter crAfter padAfter readOf changedAll spelledAll marksAfter
   rest-iac = refl
 
   inside-iac : (o : ℕ) → hostByte (standing f (Inside o) held cr p b) 255 ≡ still (standing f (readOf (Inside o) 255 .phase) held cr p b)
-  unfolding hostByte happening heldAfter crAfter padAfter readOf inside changedAll spelledAll marking
+  unfolding hostByte happening heldAfter crAfter padAfter readOf inside changedAll spelledAll marksAfter
   inside-iac o = refl
 
   -- SB after an IAC
   iac-sb : hostByte (standing f Iac held cr p b) 250 ≡ still (standing f Opening held cr p b)
-  unfolding hostByte happening heldAfter crAfter padAfter readOf afterIac changedAll spelledAll marking
+  unfolding hostByte happening heldAfter crAfter padAfter readOf afterIac changedAll spelledAll marksAfter
   iac-sb = refl
 
   module _ {byte : ℕ} (n : byte ≡ 255 → ⊥) where
     -- any other byte after it is an option; another than 30 clears what is half read of a message
     opening-option : isX3 byte ≡ false
         → hostByte (standing f Opening held cr p b) byte ≡ still (standing f (Inside byte) noneHeld cr (withMessage p idleMessage) b)
-    unfolding hostByte happening heldAfter crAfter padAfter readOf opening changedAll spelledAll marking
+    unfolding hostByte happening heldAfter crAfter padAfter readOf opening changedAll spelledAll marksAfter
     opening-option e = rw (ne-eqb _ _ n, e)
 
     -- any other byte at rest is data, passed over or obeyed
     rest-passed : passes f p cr byte ≡ true → hostByte (standing f Rest held cr p b) byte ≡ still (standing f Rest held (eqb byte 13) p b)
-    unfolding hostByte happening heldAfter crAfter padAfter readOf changedAll spelledAll marking
+    unfolding hostByte happening heldAfter crAfter padAfter readOf changedAll spelledAll marksAfter
     rest-passed e = rw (ne-eqb _ _ n, e)
 
     rest-data : passes f p cr byte ≡ false → {f′ : Frame} {chars : List ℕ} → Changes (hostData (view f (b .attrs)) byte) (b .chars) (b .attrs) f′ chars
         → hostByte (standing f Rest held cr p b) byte ≡ still (standing f′ Rest held (eqb byte 13) p (screen chars (b .attrs) (b .marks)))
-    unfolding hostByte happening heldAfter crAfter padAfter readOf spelledAll marking
+    unfolding hostByte happening heldAfter crAfter padAfter readOf spelledAll marksAfter
     rest-data e d =
         rw (ne-eqb _ _ n, e)
         (ap (λ (e : Effect). applied (standing f Rest held cr p b) (record { phase = Rest; held = held; cr = eqb byte 13 }) p e) (data-only (view f (b .attrs)) byte)
@@ -94,7 +93,7 @@ module _ (f : Frame) (held : Held) (cr : Bool) (p : Pad) (b : Screen) where
     -- in a subnegotiation of another option it is held
     inside-held : (option : ℕ) → isX3 option ≡ false → hostByte (standing f (Inside option) held cr p b) byte
         ≡ still (standing f (Inside option) (holding held byte) cr p b)
-    unfolding hostByte happening heldAfter crAfter padAfter readOf inside holding changedAll spelledAll marking
+    unfolding hostByte happening heldAfter crAfter padAfter readOf inside holding changedAll spelledAll marksAfter
     inside-held option e = rw (ne-eqb _ _ n, e)
 
 -- ---- a list of bytes without an IAC

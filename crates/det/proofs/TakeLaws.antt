@@ -21,7 +21,7 @@ use Rattle.rules.specs.declared.Refusal.{Refusal}
 use Rattle.rules.specs.declared.Refusal.the-variants.{Taken}
 use Rattle.rules.specs.Session.{Screen, State, View, lineTakesKeys, replyRoom, session, screen, state, view, viewOf}
 use Rattle.rules.specs.Refusal.{isTaken}
-use Rattle.rules.specs.Effect.{Effect, changedAll, marking, spelledAll, changing, quiet}
+use Rattle.rules.specs.Effect.{Effect, changedAll, marksAfter, spelledAll, changing, quiet}
 use Rattle.rules.specs.Telnet.{heldAfter, crAfter, hostData}
 use Rattle.rules.specs.Pad.{isX3, padAfter, response, passes}
 use Rattle.rules.specs.Operation.{applied, happening, hostByte, hostRefusal}
@@ -36,7 +36,7 @@ use Rattle.decide.specs.Decision.{meant, shown, partsOf, Sendable, Decides, end
 use Rattle.words.specs.Stored.{Emitted}
 use Rattle.reply.specs.inner.Reply.{Sayable}
 use Rattle.text.specs.Text.{Changes}
-use Rattle.det.specs.inner.Data.{dataEffect, detEffect}
+use Rattle.det.specs.inner.Data.{dataEffect, toldEffect, detEffect}
 use Rattle.det.specs.inner.Apply.{Applies, Answerable}
 use Rattle.det.specs.inner.Take.{Accepts}
 use Rattle.words.proofs.Laws.{either}
@@ -71,29 +71,35 @@ module _ {e : Effect} {f : Frame} {b : Screen} {reply : List ℕ} {at : ℕ} (a 
         replies = r .replies;
       }
 
--- nothing is done
-pub nothing-applies : {e : Effect} {f : Frame} {b : Screen} {reply : List ℕ} {at : ℕ} → e ≡ quiet (view f (b .attrs))
-    → Applies e b reply at (record { frame = f; written = at }) b reply
-unfolding changedAll spelledAll marking
-nothing-applies q =
-    rw q (record { changes = record { frame = refl; characters = refl }; attributes = refl; marks = refl; replies = emitted-none })
+-- the events on which nothing is done, data aside: all but a negotiation and an end
+pub idle : (v : View) (h : Held) (e : Event) → OneOf (0 ∷ 1 ∷ 3 ∷ 4 ∷ 6 ∷ 7 ∷ []) (tagOf the-type e) → toldEffect v h e ≡ quiet v
+unfolding toldEffect
+idle v h Nothing k = refl
+idle v h (Data b) k = refl
+idle v h (Negotiation verb option) k = absurd (miss (0 ∷ 1 ∷ 3 ∷ 4 ∷ 6 ∷ 7 ∷ []) 2 tt k)
+idle v h (Begin option) k = refl
+idle v h (Sub option b) k = refl
+idle v h (End option) k = absurd (miss (0 ∷ 1 ∷ 3 ∷ 4 ∷ 6 ∷ 7 ∷ []) 5 tt k)
+idle v h EndBare k = refl
+idle v h Lost k = refl
 
--- the events on which nothing is done: all but data, a negotiation and an end
-pub idle : (v : View) (lf : Bool) (h : Held) (cr : Bool) (e : Event) → OneOf (0 ∷ 3 ∷ 4 ∷ 6 ∷ 7 ∷ []) (tagOf the-type e) → detEffect v lf h cr e ≡ quiet v
+-- data aside, what is done does not go by CR and LF
+pub not-data : (v : View) (lf : Bool) (h : Held) (cr : Bool) (e : Event) → OneOf (0 ∷ 2 ∷ 3 ∷ 4 ∷ 5 ∷ 6 ∷ 7 ∷ []) (tagOf the-type e)
+    → detEffect v lf h cr e ≡ toldEffect v h e
 unfolding detEffect
-idle v lf h cr Nothing k = refl
-idle v lf h cr (Data b) k = absurd (miss (0 ∷ 3 ∷ 4 ∷ 6 ∷ 7 ∷ []) 1 tt k)
-idle v lf h cr (Negotiation verb option) k = absurd (miss (0 ∷ 3 ∷ 4 ∷ 6 ∷ 7 ∷ []) 2 tt k)
-idle v lf h cr (Begin option) k = refl
-idle v lf h cr (Sub option b) k = refl
-idle v lf h cr (End option) k = absurd (miss (0 ∷ 3 ∷ 4 ∷ 6 ∷ 7 ∷ []) 5 tt k)
-idle v lf h cr EndBare k = refl
-idle v lf h cr Lost k = refl
+not-data v lf h cr Nothing k = refl
+not-data v lf h cr (Data b) k = absurd (miss (0 ∷ 2 ∷ 3 ∷ 4 ∷ 5 ∷ 6 ∷ 7 ∷ []) 1 tt k)
+not-data v lf h cr (Negotiation verb option) k = refl
+not-data v lf h cr (Begin option) k = refl
+not-data v lf h cr (Sub option b) k = refl
+not-data v lf h cr (End option) k = refl
+not-data v lf h cr EndBare k = refl
+not-data v lf h cr Lost k = refl
 
 -- what is done on an event is what the rules say, but for the end of a message of option 30
 pub det-effect : (v : View) (r : Reader) (p : Pad) (e : Event) → ((option : ℕ) → e ≡ End option → isX3 option ≡ false)
     → happening v r p e ≡ detEffect v (printsLf (p .values)) (r .held) (r .cr) e
-unfolding happening detEffect dataEffect endedDet passes response
+unfolding happening toldEffect detEffect dataEffect endedDet passes response
 det-effect v r p Nothing u = refl
 det-effect v r p (Data b) u = refl
 det-effect v r p (Negotiation verb option) u = refl
@@ -127,13 +133,13 @@ pub data-applies : (f : Frame) (lf cr : Bool) (byte : ℕ) {f′ : Frame} {b : S
     → Changes (dataEffect (view f (b .attrs)) lf cr byte) (b .chars) (b .attrs) f′ chars
     → Applies (dataEffect (view f (b .attrs)) lf cr byte) b reply at (record { frame = f′; written = at })
     (screen chars (b .attrs) (b .marks)) reply
-unfolding spelledAll marking
+unfolding spelledAll marksAfter
 data-applies f lf cr byte {b = b} k =
     let only = effect-only (view f (b .attrs)) lf cr byte in
     record {
       changes = k;
       attributes = ap (λ (e : Effect). e .view .attrs) (sym only);
-      marks = rw (ap (λ (e : Effect). e .marks) only);
+      marks = rw (ap (λ (e : Effect). e .marking) only);
       replies = rw (ap (λ (e : Effect). e .reply) only) emitted-none;
     }
 

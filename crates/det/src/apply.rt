@@ -2,10 +2,10 @@
 // bytes, then the marks.
 ghost use mathlib.Core.Path.{_≡_};
 ghost use Rattle.words.specs.Words.{if_then_else_};
-ghost use Rattle.rules.specs.Effect.{changedAll, cleared, marking};
+ghost use Rattle.rules.specs.Effect.{changedAll, cleared, marksAfter};
 ghost use Rattle.command.specs.Frame.{lent, seen};
 ghost use Rattle.decide.specs.Decision.{edited, attrsOf, meant};
-ghost use Rattle.decide.specs.inner.Decision.{changesOf, marksOf};
+ghost use Rattle.decide.specs.inner.Decision.{changesOf, markingOf};
 ghost use Rattle.reply.specs.Pieces.{sayPieces};
 ghost use Rattle.reply.specs.Written.{Wrote};
 ghost use Rattle.reply.specs.inner.Reply.{Sayable};
@@ -88,7 +88,7 @@ fn format_attrs(change: Format, attrs: &mut [u8])
 
 // A typed character and a shift mark the cells that they write.
 fn mark_edited(edit: Edit, marks: &mut [u8])
-    ensures { λ _. ⌜ now (marks .exit) ≡ marking (now (marks .entry)) (marksOf edit) ⌝ }
+    ensures { λ _. ⌜ now (marks .exit) ≡ marksAfter (now (marks .entry)) (markingOf edit) ⌝ }
 {
     match edit {
         Edit::Put { cell, byte } => set_cell(marks, cell, 1),
@@ -104,7 +104,7 @@ fn mark_edited(edit: Edit, marks: &mut [u8])
 
 // All marks are cleared, or those of an edit set.
 pub(crate) fn mark(clear: bool, edit: Edit, marks: &mut [u8])
-    ensures { λ _. ⌜ now (marks .exit) ≡ marking (now (marks .entry)) (if clear then cleared else marksOf edit) ⌝ }
+    ensures { λ _. ⌜ now (marks .exit) ≡ marksAfter (now (marks .entry)) (if clear then cleared else markingOf edit) ⌝ }
 {
     if clear {
         fill(marks, 0, marks.len(), 0);

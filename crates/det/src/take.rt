@@ -7,7 +7,9 @@ ghost use lib.ListN.{length};
 ghost use Rattle.telnet.specs.declared.Phase.the-variants.{Rest, Inside};
 ghost use Rattle.rules.specs.Session.{Screen, screen};
 ghost use Rattle.command.specs.Frame.{lent, seen};
-ghost use Rattle.det.specs.inner.Data.{detEffect};
+ghost use Rattle.command.specs.inner.Frame.{Fits};
+ghost use Rattle.decide.specs.Decision.{Decides};
+ghost use Rattle.det.specs.inner.Data.{toldEffect, detEffect};
 ghost use Rattle.det.specs.inner.Apply.{Answerable, Applies};
 ghost use Rattle.det.specs.inner.Take.{AcceptsTurn, inMessage, toldOf, Tells, QuietTurns, Turns};
 use crate::apply::Applied;
@@ -20,6 +22,10 @@ use command::held::held_of;
 use command::held::hold_all;
 use command::held::none;
 use command::number::X3;
+use decide::decision::Decision;
+use decide::decision::Edit;
+use decide::decision::Format;
+use decide::decision::Say;
 use decide::negotiate::negotiate;
 use decide::obey::decide_end;
 use rules::Frame;
@@ -41,6 +47,24 @@ pub struct Turn {
     pub event: Event,
     pub end: usize,
     pub written: usize,
+}
+
+// What is done on an event other than data that ends no message of option 30.
+fn decide_event(frame: Frame, attrs: &[u8], held: Held, event: Event) -> Decision
+    requires { ⌜ Fits (seen frame attrs) ⌝ }
+    ensures { λ r. ⌜ Decides (seen frame (attrs .entry)) r (λ v. toldEffect v held event) ⌝ }
+{
+    match event {
+        Event::Negotiation { verb, option } => negotiate(frame, verb, option),
+        Event::End(option) => decide_end(frame, attrs, held, option),
+        _ => Decision {
+            frame: frame,
+            edit: Edit::Nothing,
+            say: Say::Silent,
+            format: Format::Keep,
+            clear: false,
+        },
+    }
 }
 
 // Does what an event asks for that ends no message of option 30. `held` and `cr` are as before it.
@@ -69,18 +93,10 @@ fn happen(
                 written: at,
             }
         }
-        Event::Negotiation { verb, option } => {
-            let decision = negotiate(frame, verb, option);
+        _ => {
+            let decision = decide_event(frame, attrs, held, event);
             apply(decision, chars, attrs, marks, reply, at)
         }
-        Event::End(option) => {
-            let decision = decide_end(frame, attrs, held, option);
-            apply(decision, chars, attrs, marks, reply, at)
-        }
-        _ => Applied {
-            frame: frame,
-            written: at,
-        },
     }
 }
 

@@ -10,7 +10,7 @@ use lib.Seq.{paste}
 use Rattle.edit.specs.declared.range.Shift.{Shift}
 use Rattle.edit.specs.declared.range.Shift.the-variants.{Insertion, Deletion}
 use Rattle.words.specs.Words.{if_then_else_, tabulate}
-use Rattle.screen.specs.Words.{inRange, firstOf}
+use Rattle.screen.specs.Words.{inRange, someIn}
 use Rattle.screen.specs.Attributes.{guardedAt}
 
 -- 14 and 16, line and char delete: the part moves `by` cells towards its start, and spaces come in at its end
@@ -61,7 +61,7 @@ abbrev pub markedAt : List ℕ → ℕ → Bool
 markedAt marks i = eqb (getD marks i 0) 1
 
 unfoldable pub someMarked : List ℕ → ℕ → ℕ → Bool
-someMarked marks from end = ltb (firstOf (markedAt marks) end from (end - from)) end
+someMarked marks from end = someIn (markedAt marks) from end
 
 -- 20 to 26: the text of the cells of the range, as it stands in a reply
 abbrev pub textOf : ℕ → ℕ → List ℕ → List ℕ

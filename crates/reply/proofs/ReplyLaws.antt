@@ -3,14 +3,14 @@ use mathlib.Core.Path.{_≡_, refl, sym, ap, subst, _∙_}
 use mathlib.Core.Bool.{Bool, true, false}
 use mathlib.Core.List.{List, [], _∷_, _++_, append-assoc, append-nil}
 use Prim.Native.Nat.{ℕ, zero, suc, _+_, _*_, _≤_, _<_}
-use native.Mathlib.Nat.{add-zero, add-suc, suc-add}
+use native.Mathlib.Nat.{add-zero}
 use native.Mathlib.Omega.{arith}
 use borrow.Author.Tests.{le-leb}
 use lib.Dec.{leb, eqb}
 use lib.ListN.{length, length-append}
 use lib.Seq.{sets, length-sets}
 use Rattle.telnet.specs.Reader.{iac, se}
-use Rattle.telnet.specs.Writer.{doubled, subnegotiation, negotiation}
+use Rattle.telnet.specs.Writer.{doubled, subnegotiation}
 use Rattle.words.specs.Words.{if_then_else_}
 use Rattle.words.specs.Stored.{Room, Emitted}
 use Rattle.screen.specs.declared.cell.Place.{Place}

@@ -7,7 +7,6 @@ use Prim.Native.Nat.{ℕ, zero, suc, _+_}
 use native.Mathlib.Omega.{arith}
 use borrow.Author.Tests.{not-true, eqb-true, eqb-false, ltb-true, lt-leb}
 use lib.Dec.{leb, ltb, eqb}
-use lib.ListN.{take, drop}
 use Rattle.telnet.specs.declared.Verb.{Verb}
 use Rattle.telnet.specs.declared.Verb.the-variants.{Will, Wont, Do, Dont}
 use Rattle.telnet.specs.declared.Event.{Event}
@@ -36,7 +35,7 @@ use Rattle.rules.specs.declared.Fault.{Fault}
 use Rattle.rules.specs.declared.Fault.the-variants.{NoFault, NotAgreed, UnknownCode, OffScreen, TooManyParameters, TooFewParameters, BadValue, BadMap}
 use Rattle.rules.specs.declared.Key.{Key}
 use Rattle.rules.specs.Session.{View, State, printable, cells, x3Cells, switched, withX3, withReceived, lineTakesKeys, viewOf, cursorCell, screenEnd, withCursor, withModes, withFrame, withAttrs}
-use Rattle.rules.specs.Effect.{Effect, Executed, Change, Marking, kept, marking, Part, changedAll, changing, saying, quiet, writing, clearing}
+use Rattle.rules.specs.Effect.{Effect, Executed, Change, Marking, kept, marksAfter, Part, changedAll, changing, saying, quiet, writing, clearing}
 use Rattle.rules.specs.Facility.{agreed}
 use Rattle.rules.specs.Command.{Row, rows, Listed, listed, unlisted, rowOf, codeIn, parameter, formatCount, valueFault, faultOf}
 use Rattle.rules.specs.Cursor.{cursorGuarded}
@@ -63,7 +62,7 @@ record Leaves (may : Aspect → Bool) (v : View) (e : Effect) : Type 0 where
   the-suppression : may suppression ≡ false → e .view .frame .suppressed ≡ v .frame .suppressed
   the-received : may received ≡ false → e .view .frame .received ≡ v .frame .received
   the-characters : may characters ≡ false → e .changes ≡ []
-  the-marks : may marks ≡ false → e .marks ≡ kept
+  the-marks : may marks ≡ false → e .marking ≡ kept
   the-cursor : may cursor ≡ false → e .view .frame .cursor ≡ v .frame .cursor
 
 -- and what is left of the PAD
@@ -80,7 +79,7 @@ abbrev leaving : {may : Aspect → Bool} {v w : View} {cs : List Change} {m : Ma
     → (may suppression ≡ false → w .frame .suppressed ≡ v .frame .suppressed)
     → (may received ≡ false → w .frame .received ≡ v .frame .received) → (may characters ≡ false → cs ≡ [])
     → (may marks ≡ false → m ≡ kept) → (may cursor ≡ false → w .frame .cursor ≡ v .frame .cursor)
-    → Leaves may v (record { view = w; changes = cs; marks = m; reply = ps; executed = es })
+    → Leaves may v (record { view = w; changes = cs; marking = m; reply = ps; executed = es })
 leaving a b x c r d m e =
     record {
       the-attributes = a;
@@ -173,7 +172,7 @@ module _ {may : Aspect → Bool} (e : may characters ≡ true) (d : may cursor �
 
   -- one effect after another, of those that may change both
   leaves-then : {v : View} (one rest : Effect) {ps : List Part} {es : List Executed} → Leaves may v one → Leaves may (one .view) rest
-      → Leaves may v (record { view = rest .view; changes = one .changes ++ rest .changes; marks = kept; reply = ps; executed = es })
+      → Leaves may v (record { view = rest .view; changes = one .changes ++ rest .changes; marking = kept; reply = ps; executed = es })
   leaves-then one rest a b =
       leaving (λ h. b .the-attributes h ∙ a .the-attributes h) (λ h. b .the-det h ∙ a .the-det h) (λ h. b .the-x3 h ∙ a .the-x3 h)
       (λ h. b .the-suppression h ∙ a .the-suppression h) (λ h. b .the-received h ∙ a .the-received h) (not-both _ e) same
@@ -439,7 +438,7 @@ key-pad s k =
 
 same-applied : (a : Aspect) {may : Aspect → Bool} (s : State) (r : Reader) (p : Pad) (e : Effect) → may a ≡ false → Leaves may (viewOf s) e
     → LeavesPad may (s .session .pad) p → Same a s ((applied s r p e) .state)
-unfolding changedAll marking
+unfolding changedAll marksAfter
 same-applied attributes s r p e h k l = k .the-attributes h
 same-applied det s r p e h k l = k .the-det h
 same-applied x3 s r p e h k l = k .the-x3 h

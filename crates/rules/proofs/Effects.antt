@@ -36,7 +36,7 @@ use Rattle.rules.specs.declared.Fault.the-variants.{NoFault, NotAgreed, 
 use Rattle.rules.specs.declared.Key.{Key}
 use Rattle.rules.specs.declared.Key.the-variants.{Typed, Back, Tab, Send, Delete, Function, Meaningless}
 use Rattle.rules.specs.Session.{View, State, printable, cells, x3Cells, withReceived, lineTakesKeys, viewOf, withFrame}
-use Rattle.rules.specs.Effect.{Effect, Change, Marking, Part, bytes, text, changedAll, message, changing, saying, quiet}
+use Rattle.rules.specs.Effect.{Effect, Change, Marking, Part, bytes, text, changedAll, message, saying, quiet}
 use Rattle.rules.specs.Number.{detOption, dataTransmit, cursorPosition, error}
 use Rattle.rules.specs.Facility.{ownMap}
 use Rattle.rules.specs.Cursor.{cursorGuarded}
@@ -77,8 +77,8 @@ module _ {m n : ℕ} {v : View} (k : SoundView m n v) where
   tells bs l = says _ (fits-bytes m n cells-some bs l)
 
   -- one change, whatever becomes of the marks
-  changes : (c : Change) → Fine c → {marks : Marking}
-      → Keeps m n (record { view = v; changes = c ∷ []; marks = marks; reply = []; executed = [] })
+  changes : (c : Change) → Fine c → {m′ : Marking}
+      → Keeps m n (record { view = v; changes = c ∷ []; marking = m′; reply = []; executed = [] })
   unfolding changedAll
   changes c f =
       record { view = k; changes = λ attrs chars t. text-changed chars attrs c f t; reply = fits-nothing m n; executed = omega arith }

@@ -5,13 +5,13 @@ use mathlib.Core.List.{List, [], _∷_}
 use Prim.Native.Nat.{ℕ, zero, suc}
 use lib.Dec.{leb}
 use lib.ListN.{length, getD, replicate, length-replicate}
-use Rattle.words.specs.Words.{if_then_else_, tabulate}
+use Rattle.words.specs.Words.{tabulate}
 use Rattle.words.proofs.Laws.{either, and-left, and-right, both}
 use Rattle.screen.specs.Words.{inRange}
 use Rattle.edit.specs.Edits.{filledCell, filled}
 use Rattle.edit.proofs.EditLaws.{filled-length}
 use Rattle.rules.specs.Session.{allMarks}
-use Rattle.rules.specs.Effect.{Marking, kept, cleared, marked, marking}
+use Rattle.rules.specs.Effect.{Marking, kept, cleared, marked, marksAfter}
 -- the sentences of document 01 are checked first, so that a wrong rule is refused there
 use Rattle.rules.proofs.Causes.{nothing-else}
 
@@ -37,8 +37,8 @@ unfolding allMarks
 no-marks zero = refl
 no-marks (suc n) = no-marks n
 
-pub still-marks : {cells : ℕ} {marks : List ℕ} → Marks cells marks → (m : Marking) → Marks cells (marking marks m)
-unfolding marking filled
+pub still-marks : {cells : ℕ} {marks : List ℕ} → Marks cells marks → (m : Marking) → Marks cells (marksAfter marks m)
+unfolding marksAfter filled
 still-marks k kept = k
 still-marks {marks = marks} k cleared = record { long = length-replicate (length marks) 0 ∙ k .long; small = no-marks (length marks) }
 still-marks {marks = marks} k (marked from end) = record {

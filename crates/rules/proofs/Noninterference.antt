@@ -14,7 +14,7 @@ use Rattle.rules.specs.declared.Refusal.{Refusal}
 use Rattle.rules.specs.declared.Session.{Session}
 use Rattle.rules.specs.Session.{State, printable, allPrintable, replyRoom, screen, state, viewOf}
 use Rattle.rules.specs.Refusal.{isTaken, sizeTests, stateTests}
-use Rattle.rules.specs.Effect.{Effect, Executed, changedAll, marking}
+use Rattle.rules.specs.Effect.{Effect, Executed, changedAll, marksAfter}
 use Rattle.rules.specs.Command.{reachesPast}
 use Rattle.rules.specs.Cursor.{cursorGuarded}
 use Rattle.rules.specs.Pad.{takesKey}
@@ -99,7 +99,7 @@ module _ (attrs c₀ d₀ : List ℕ) where
       record {
         taken = refl;
         replies = rw a (same-reply (w .alike) marks (e .reply) (safe .reply));
-        states = twins _ _ (marking marks (e .marks)) (changedAll c now (e .changes)) (changedAll d now (e .changes)) (safe .attributes) (safe .protecting)
+        states = twins _ _ (marksAfter marks (e .marking)) (changedAll c now (e .changes)) (changedAll d now (e .changes)) (safe .attributes) (safe .protecting)
             (rw a (still-twins (e .changes) (safe .changes) w));
       }
 

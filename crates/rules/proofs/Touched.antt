@@ -1,6 +1,6 @@
 -- Document 02, request (v): worked cases of marks, of TRANSMIT MODIFIED, and of refusals 2 and 11.
 use mathlib.Core.Path.{_≡_}
-use mathlib.Core.Bool.{Bool, true, false}
+use mathlib.Core.Bool.{true, false}
 use mathlib.Core.List.{List, [], _∷_, _++_}
 use Prim.Native.Nat.{ℕ, _+_, _-_}
 use Prim.Native.String.{String}

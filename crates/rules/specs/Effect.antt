@@ -35,10 +35,10 @@ pub data Marking : Type 0 where
   cleared : Marking
   marked : ℕ → ℕ → Marking
 
-unfoldable pub marking : List ℕ → Marking → List ℕ
-marking marks kept = marks
-marking marks cleared = replicate (length marks) 0
-marking marks (marked from end) = filled from end 1 marks
+unfoldable pub marksAfter : List ℕ → Marking → List ℕ
+marksAfter marks kept = marks
+marksAfter marks cleared = replicate (length marks) 0
+marksAfter marks (marked from end) = filled from end 1 marks
 
 -- What a reply is made of: bytes, the text of a range of cells, or both where a cell of the range is marked.
 pub data Part : Type 0 where
@@ -69,22 +69,22 @@ pub record Executed : Type 0 where
 pub record Effect : Type 0 where
   pub view : View
   pub changes : List Change
-  pub marks : Marking
+  pub marking : Marking
   pub reply : List Part
   pub executed : List Executed
 
 abbrev pub changing : View → List Change → Effect
-changing v changes = record { view = v; changes = changes; marks = kept; reply = []; executed = [] }
+changing v changes = record { view = v; changes = changes; marking = kept; reply = []; executed = [] }
 
 abbrev pub saying : View → List Part → Effect
-saying v reply = record { view = v; changes = []; marks = kept; reply = reply; executed = [] }
+saying v reply = record { view = v; changes = []; marking = kept; reply = reply; executed = [] }
 
 abbrev pub quiet : View → Effect
 quiet v = changing v []
 
 -- a change that marks the cells of a range; an effect that clears all marks
 abbrev pub writing : View → Change → ℕ → ℕ → Effect
-writing v change from end = record { view = v; changes = change ∷ []; marks = marked from end; reply = []; executed = [] }
+writing v change from end = record { view = v; changes = change ∷ []; marking = marked from end; reply = []; executed = [] }
 
 abbrev pub clearing : Effect → Effect
-clearing e = record { view = e .view; changes = e .changes; marks = cleared; reply = e .reply; executed = e .executed }
+clearing e = record { view = e .view; changes = e .changes; marking = cleared; reply = e .reply; executed = e .executed }

@@ -27,8 +27,8 @@ pub record Kept (attrs before after : List ℕ) : Type 0 where
   pub protected : (i : ℕ) → i < length before → protectedAt attrs i ≡ true → getD after i 0 ≡ getD before i 0
 
 -- Two runs, begun with the attribute bytes `attrs` and the characters c and d, gave the answers a and b and ended in s and t: the
--- same answers, counts, refusals and reply bytes; they end alike; and every protected cell is as at its start, its character and
--- its attribute byte.
+-- same answers, counts, refusals and reply bytes; they end alike, with the same marks; and every protected cell is as at its start, its
+-- character and its attribute byte.
 pub record Indistinct (attrs c d : List ℕ) (a b : List Answered) (s t : State) : Type 0 where
   pub answers : a ≡ b
   pub sessions : s .session ≡ t .session

@@ -16,7 +16,7 @@ use Rattle.rules.specs.declared.Answer.{Answer}
 use Rattle.rules.specs.Session.{Screen, State, View, cells, replyRoom, session, freshFrame, fresh, screen, state, viewOf}
 use Rattle.rules.specs.Number.{detOption}
 use Rattle.rules.specs.Refusal.{Test, isTaken, verdict, sizeTests, stateTests}
-use Rattle.rules.specs.Effect.{Effect, Executed, changedAll, marking, spelledAll, saying, quiet}
+use Rattle.rules.specs.Effect.{Effect, Executed, changedAll, marksAfter, spelledAll, saying, quiet}
 use Rattle.rules.specs.Telnet.{heldAfter, crAfter, negotiated, hostData}
 use Rattle.rules.specs.Pad.{padAfter, response, takesKey, lineTests, padTyped, typedTo, passes}
 use Rattle.rules.specs.Subcommand.{subcommand}
@@ -37,7 +37,7 @@ applied s r p e =
     record {
       state =
           state (session (e .view .frame) r p)
-          (screen (changedAll (b .chars) (b .attrs) (e .changes)) (e .view .attrs) (marking (b .marks) (e .marks)));
+          (screen (changedAll (b .chars) (b .attrs) (e .changes)) (e .view .attrs) (marksAfter (b .marks) (e .marking)));
       replies = spelledAll b (e .reply);
       executed = e .executed;
     }

@@ -94,7 +94,7 @@ echoedAt p k = echoOf (p .values) (textOf (p .line)) k
 unfoldable pub typedTo : View → Pad → ℕ → Effect
 typedTo v p k =
     let echo = hostText v (echoedAt p k) in
-    record { view = echo .view; changes = echo .changes; marks = echo .marks; reply = bytes (sentAt p k) ∷ []; executed = [] }
+    record { view = echo .view; changes = echo .changes; marking = echo .marking; reply = bytes (sentAt p k) ∷ []; executed = [] }
 
 -- ---- host data
 

@@ -11,9 +11,10 @@ use Rattle.telnet.specs.Writer.{subnegotiation}
 use Rattle.screen.specs.declared.cell.Place.{Place}
 use Rattle.edit.specs.declared.range.Shift.{Shift}
 use Rattle.words.specs.Words.{if_then_else_}
+use Rattle.screen.specs.Words.{someIn}
 use Rattle.screen.specs.Cells.{placeOf, lineStart, lineEnd}
 use Rattle.screen.specs.Attributes.{guardedAt}
-use Rattle.screen.specs.Fields.{someFrom, opensAt, fieldStart, fieldEnd, spanEnd}
+use Rattle.screen.specs.Fields.{opensAt, fieldStart, fieldEnd, spanEnd}
 use Rattle.edit.specs.Edits.{filled}
 use Rattle.rules.specs.declared.Held.{Held}
 use Rattle.rules.specs.declared.Destination.the-variants.{Corner, LineStart, NextLine, FirstField}
@@ -178,7 +179,7 @@ abbrev pub cursorLineStart : View → ℕ
 cursorLineStart v = lineStart (v .frame .width) (v .frame .cursor .y)
 
 abbrev pub linesGuarded : View → Bool
-linesGuarded v = someFrom (guardedAt (v .frame .suppressed) (v .attrs)) (v .attrs) (cursorLineStart v)
+linesGuarded v = someIn (guardedAt (v .frame .suppressed) (v .attrs)) (cursorLineStart v) (screenEnd v)
 
 -- 13 and 14: nothing where one of them is guarded, else all of them shifted by a line
 abbrev pub lineShifting : View → Shift → Effect
@@ -245,7 +246,7 @@ judged v r h NoFault =
     record {
       view = e .view;
       changes = e .changes;
-      marks = e .marks;
+      marking = e .marking;
       reply = e .reply;
       executed = record { row = r; held = h } ∷ [];
     }

@@ -7,9 +7,9 @@ use native.Mathlib.Omega.{arith}
 use borrow.Author.Tests.{eqb-true, eq-eqb, ne-eqb, lt-ltb, le-ltb, not-true, not-false}
 use lib.Dec.{eqb}
 use lib.ListN.{length, List·getD-eq-default}
-use Rattle.screen.specs.Words.{firstOf}
+use Rattle.screen.specs.Words.{firstOf, someIn}
 use Rattle.screen.specs.Attributes.{attributeAt, protectedAt, guardedAt}
-use Rattle.screen.specs.Fields.{Run, Field, startsAt, opensAt, firstFrom, someFrom, fieldStart, fieldEnd, spanEnd}
+use Rattle.screen.specs.Fields.{Run, Field, startsAt, opensAt, firstFrom, fieldStart, fieldEnd, spanEnd}
 use Rattle.screen.specs.Scans.{nextOpen}
 use Rattle.words.proofs.Laws.{less-or-not, true-or-false, not-both, and-right}
 use Rattle.screen.proofs.WordLaws.{first-hit, first-skips, first-passes, last-passes, first-past, last-past, first-above, first-end, first-below, last-below}
@@ -191,8 +191,8 @@ module _ (attrs : List ℕ) where
 -- whether some cell passes a test, by a cell that a scan has come to
 module _ (test : ℕ → Bool) (attrs : List ℕ) (i j : ℕ)
     (e : firstFrom test attrs i (length attrs) ≡ firstFrom test attrs j (length attrs)) where
-  pub some-here : j < length attrs → test j ≡ true → someFrom test attrs i ≡ true
+  pub some-here : j < length attrs → test j ≡ true → someIn test i (length attrs) ≡ true
   some-here h t = rw (e, first-hit test (length attrs) j (length attrs) h t) (lt-ltb j (length attrs) h)
 
-  pub some-nowhere : length attrs ≤ j → someFrom test attrs i ≡ false
+  pub some-nowhere : length attrs ≤ j → someIn test i (length attrs) ≡ false
   some-nowhere h = rw (e, first-end test (length attrs) j (length attrs) h) (le-ltb (length attrs) (length attrs) (omega arith))

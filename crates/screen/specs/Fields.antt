@@ -3,7 +3,7 @@ use mathlib.Core.Path.{_≡_}
 use mathlib.Core.Bool.{Bool, true, not, _&&_}
 use mathlib.Core.List.{List}
 use Prim.Native.Nat.{ℕ, zero, suc, _+_, _-_, _≤_, _<_, min}
-use lib.Dec.{ltb, eqb}
+use lib.Dec.{eqb}
 use lib.ListN.{length}
 use Rattle.words.specs.Words.{if_then_else_}
 use Rattle.screen.specs.Words.{firstOf, lastOf}
@@ -38,10 +38,6 @@ firstFrom test attrs i none = firstOf test none i (length attrs - i)
 -- the same, around the screen
 abbrev pub firstAround : (ℕ → Bool) → List ℕ → ℕ → ℕ → ℕ
 firstAround test attrs i none = firstFrom test attrs i (firstFrom test attrs 0 none)
-
--- some cell from i on passes it: the first that does is one of the screen's
-abbrev pub someFrom : (ℕ → Bool) → List ℕ → ℕ → Bool
-someFrom test attrs i = ltb (firstFrom test attrs i (length attrs)) (length attrs)
 
 abbrev pub lastBefore : (ℕ → Bool) → List ℕ → ℕ → ℕ → ℕ
 lastBefore test attrs i none = lastOf test none (min i (length attrs))

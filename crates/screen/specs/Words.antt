@@ -1,6 +1,6 @@
 -- Ranges of cells, and the first and the last number that passes a test.
 use mathlib.Core.Bool.{Bool, _&&_}
-use Prim.Native.Nat.{ℕ, zero, suc}
+use Prim.Native.Nat.{ℕ, zero, suc, _-_}
 use lib.Dec.{leb, ltb}
 use Rattle.words.specs.Words.{if_then_else_}
 
@@ -12,6 +12,10 @@ inRange from end i = leb from i && ltb i end
 unfoldable pub firstOf : (ℕ → Bool) → ℕ → ℕ → ℕ → ℕ
 firstOf test none i zero = none
 firstOf test none i (suc n) = if test i then i else firstOf test none (suc i) n
+
+-- some number from one up to another, that one excluded, passes: the first that does is below it
+abbrev pub someIn : (ℕ → Bool) → ℕ → ℕ → Bool
+someIn test from end = ltb (firstOf test end from (end - from)) end
 
 -- the last that passes of the n numbers from 0 on; none where none does
 unfoldable pub lastOf : (ℕ → Bool) → ℕ → ℕ → ℕ

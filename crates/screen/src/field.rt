@@ -1,7 +1,9 @@
 // Fields, the longest runs of equal attribute bytes, and the edit span.
 ghost use mathlib.Core.Path.{_≡_};
 ghost use Rattle.screen.specs.Attributes.{guardedAt};
-ghost use Rattle.screen.specs.Fields.{someFrom, fieldStart, fieldEnd, spanEnd};
+ghost use lib.ListN.{length};
+ghost use Rattle.screen.specs.Words.{someIn};
+ghost use Rattle.screen.specs.Fields.{fieldStart, fieldEnd, spanEnd};
 use crate::attribute::is_guarded;
 use crate::number::least;
 use crate::scan::Target;
@@ -43,7 +45,7 @@ pub fn span_end(suppressed: bool, attrs: &[u8], cell: usize, stop: usize) -> usi
 
 // Is some cell from `from` on guarded? A field is guarded as a whole, so one look at each is enough.
 pub fn some_guarded(suppressed: bool, attrs: &[u8], from: usize) -> bool
-    ensures { λ r. ⌜ r ≡ someFrom (guardedAt suppressed (now (attrs .entry))) (now (attrs .entry)) from ⌝ }
+    ensures { λ r. ⌜ r ≡ someIn (guardedAt suppressed (now (attrs .entry))) from (length (now (attrs .entry))) ⌝ }
 {
     let mut cell = from;
     while cell < attrs.len() {

@@ -61,7 +61,7 @@ pub text-keeps : (v : View) (xs : List ℕ) → (hostText v xs) .view .attrs ≡
 text-keeps v xs = ap (λ (w : View). w .attrs) (text-moves v xs)
 
 -- it marks nothing
-pub text-marks : (v : View) (xs : List ℕ) → (hostText v xs) .marks ≡ kept
+pub text-marks : (v : View) (xs : List ℕ) → (hostText v xs) .marking ≡ kept
 unfolding hostText
 text-marks v [] = refl
 text-marks v (x ∷ xs) = refl

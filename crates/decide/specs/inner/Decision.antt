@@ -31,17 +31,17 @@ changesOf (Shift s from end by) = shift s from end by ∷ []
 changesOf (Repeat n c) = []
 
 -- and what becomes of the marks: a typed character and a shift mark the cells that they write
-abbrev pub marksOf : Edit → Marking
-marksOf Nothing = kept
-marksOf (Put cell c) = marked cell (cell + 1)
-marksOf (Erase suppressed from end) = kept
-marksOf (Shift s from end by) = marked from end
-marksOf (Repeat n c) = kept
+abbrev pub markingOf : Edit → Marking
+markingOf Nothing = kept
+markingOf (Put cell c) = marked cell (cell + 1)
+markingOf (Erase suppressed from end) = kept
+markingOf (Shift s from end by) = marked from end
+markingOf (Repeat n c) = kept
 
 -- not REPEAT: these are all it does
 abbrev pub Once : Edit → Type 0
 Once edit =
-    (v : View) → edited v edit ≡ record { view = v; changes = changesOf edit; marks = marksOf edit; reply = []; executed = [] }
+    (v : View) → edited v edit ≡ record { view = v; changes = changesOf edit; marking = markingOf edit; reply = []; executed = [] }
 
 -- what a command comes to whose row in the list has this meaning, so many parameters and this governor
 abbrev pub Judges : View → Decision → Command → ℕ → Governor → Held → Type 0

@@ -5,7 +5,7 @@ use Prim.Native.Nat.{ℕ}
 use lib.ListN.{length}
 use Rattle.rules.specs.declared.Frame.{Frame}
 use Rattle.rules.specs.Session.{Screen, view}
-use Rattle.rules.specs.Effect.{Effect, marking, spelledAll}
+use Rattle.rules.specs.Effect.{Effect, marksAfter, spelledAll}
 use Rattle.command.specs.inner.Frame.{Fits}
 use Rattle.text.specs.Text.{Changes}
 use Rattle.words.specs.Stored.{Room, Emitted}
@@ -15,7 +15,7 @@ use Rattle.det.specs.declared.apply.Applied.{Applied}
 pub record Applies (e : Effect) (b : Screen) (reply : List ℕ) (at : ℕ) (a : Applied) (b′ : Screen) (reply′ : List ℕ) : Type 0 where
   pub changes : Changes e (b .chars) (b .attrs) (a .frame) (b′ .chars)
   pub attributes : b′ .attrs ≡ e .view .attrs
-  pub marks : b′ .marks ≡ marking (b .marks) (e .marks)
+  pub marks : b′ .marks ≡ marksAfter (b .marks) (e .marking)
   pub replies : Emitted reply at (spelledAll b (e .reply)) reply′ (a .written)
 
 -- the frame is the screen's, and the effect's reply fits from `at` on

@@ -24,13 +24,24 @@ pub record DataDone (v : View) (lf cr : Bool) (bytes chars : List ℕ) (t : Data
 unfoldable pub dataEffect : View → Bool → Bool → ℕ → Effect
 dataEffect v lf cr b = if (lineTakesKeys (v .frame) && not lf) && (cr && eqb b 10) then quiet v else hostData v b
 
--- on an event, with these bytes held
+-- on an event other than data, with these bytes held
+unfoldable pub toldEffect : View → Held → Event → Effect
+toldEffect v h (Negotiation verb option) = negotiated v verb option
+toldEffect v h (End option) = endedDet v h option
+toldEffect v h Nothing = quiet v
+toldEffect v h (Data b) = quiet v
+toldEffect v h (Begin option) = quiet v
+toldEffect v h (Sub option b) = quiet v
+toldEffect v h EndBare = quiet v
+toldEffect v h Lost = quiet v
+
+-- on any
 unfoldable pub detEffect : View → Bool → Held → Bool → Event → Effect
-detEffect v lf h cr Nothing = quiet v
 detEffect v lf h cr (Data b) = dataEffect v lf cr b
-detEffect v lf h cr (Negotiation verb option) = negotiated v verb option
-detEffect v lf h cr (Begin option) = quiet v
-detEffect v lf h cr (Sub option b) = quiet v
-detEffect v lf h cr (End option) = endedDet v h option
-detEffect v lf h cr EndBare = quiet v
-detEffect v lf h cr Lost = quiet v
+detEffect v lf h cr Nothing = toldEffect v h Nothing
+detEffect v lf h cr (Negotiation verb option) = toldEffect v h (Negotiation verb option)
+detEffect v lf h cr (Begin option) = toldEffect v h (Begin option)
+detEffect v lf h cr (Sub option b) = toldEffect v h (Sub option b)
+detEffect v lf h cr (End option) = toldEffect v h (End option)
+detEffect v lf h cr EndBare = toldEffect v h EndBare
+detEffect v lf h cr Lost = toldEffect v h Lost

@@ -20,7 +20,7 @@ use Rattle.rules.specs.Session.{allPrintable, allMarks, padOk, sessionOk
 use Rattle.rules.specs.Facility.{weight, ownMap, receiving, agreed}
 use Rattle.rules.specs.Refusal.{verdict, sizeTests, stateTests}
 use Rattle.rules.specs.Command.{rows, rowIn, meaning, reaches, valueFault, faultOf}
-use Rattle.rules.specs.Effect.{changed, changedAll, marking, spelled, spelledAll}
+use Rattle.rules.specs.Effect.{changed, changedAll, marksAfter, spelled, spelledAll}
 use Rattle.rules.specs.Cursor.{
   linesDown,
   skippedToChar,
@@ -59,7 +59,7 @@ unfolding bit parameters lines messages responses keys echoes printsLf reader do
     protectedAt startsAt opensAt fieldStart fieldEnd spanEnd
     nextOpen deleted inserted shifted onPart erased filled someMarked takes allPrintable allMarks padOk sessionOk weight ownMap receiving
     agreed verdict sizeTests stateTests rows rowIn
-    meaning reaches valueFault faultOf changed changedAll marking spelled spelledAll linesDown skippedToChar
+    meaning reaches valueFault faultOf changed changedAll marksAfter spelled spelledAll linesDown skippedToChar
     nextCell homeCell backTabCell firstFieldCell nextFieldCell previousOpenCell destination
     holding heldAfter crAfter optionOf isOn accepts turned switchedOn switchedOff negotiated hostCharacter hostCharacters
     hostData hostText empties padAfter response lineTests padTyped typedTo passes fieldTexts modifiedTexts

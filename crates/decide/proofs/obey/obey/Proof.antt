@@ -1,7 +1,6 @@
 -- `obey` meets its contract: one case for each command.
 use mathlib.Core.Path.{refl}
 use Rattle.rules.specs.Subcommand.{obeyed}
-use Rattle.decide.proofs.DecideLaws.{decides}
 use Rattle.decide.proofs.ObeyLaws.{repeated}
 use borrow.Author.Needs.{needs}
 use Rattle.decide.proofs.obey.obey.Statement.{statement}

@@ -2,7 +2,7 @@
 use mathlib.Core.Path.{_∙_}
 use borrow.Author.Needs.{needs}
 use Rattle.reply.proofs.ReplyLaws.{said}
-use Rattle.det.proofs.ApplyLaws.{marks-of}
+use Rattle.det.proofs.ApplyLaws.{marking-of}
 use Rattle.det.proofs.apply.apply.Statement.{statement}
 use Rattle.det.proofs.apply.apply.Tie as tie
 
@@ -19,6 +19,6 @@ apply-spec =
     record {
       changes = record { frame = done .frame; characters = done .characters };
       attributes = f .format-attrs .ensures;
-      marks = k .mark .ensures ∙ rw (marks-of _ (w .before .before .before .before .before .before .before .before .before .args .decision .edit));
+      marks = k .mark .ensures ∙ rw (marking-of _ (w .before .before .before .before .before .before .before .before .before .args .decision .edit));
       replies = said (w .before .before .before .before .before .before .before .before .before .pre) (w .say-any .ensures);
     }))

@@ -1,13 +1,13 @@
 -- `mark` meets its contract: cleared, or set.
 use mathlib.Core.Path.{_∙_}
 use Rattle.edit.proofs.EditLaws.{all-zeros}
-use Rattle.rules.specs.Effect.{marking}
+use Rattle.rules.specs.Effect.{marksAfter}
 use borrow.Author.Needs.{needs}
 use Rattle.det.proofs.apply.mark.Statement.{statement}
 use Rattle.det.proofs.apply.mark.Tie as tie
 
 pub mark-spec : {M : Type 1} → statement M
-unfolding marking
+unfolding marksAfter
 mark-spec =
     tie.close
     (tie.spec

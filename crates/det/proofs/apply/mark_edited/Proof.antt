@@ -1,14 +1,14 @@
 -- `mark_edited` meets its contract: one cell, a range, or none.
 use mathlib.Core.Path.{_∙_}
 use Rattle.edit.proofs.EditLaws.{filled-one}
-use Rattle.rules.specs.Effect.{marking}
+use Rattle.rules.specs.Effect.{marksAfter}
 use borrow.Author.Needs.{needs}
 use Rattle.det.proofs.ApplyLaws.{marks-none}
 use Rattle.det.proofs.apply.mark_edited.Statement.{statement}
 use Rattle.det.proofs.apply.mark_edited.Tie as tie
 
 pub mark-edited-spec : {M : Type 1} → statement M
-unfolding marking
+unfolding marksAfter
 mark-edited-spec =
     tie.close
     (tie.spec

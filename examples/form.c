@@ -5,8 +5,9 @@
  *
  * with the weight "70 " and the unit "mg " open and all else protected; before that it sends its
  * facility maps. The operator deletes a character of the weight, and sends the form. Then the host
- * asks for the field that was touched alone. Status 1 where a call answers something else than it
- * should. */
+ * asks for the field that was touched alone. That host follows September's edition. Last, a
+ * function key is pressed for it, and one for a host that follows June's. Status 1 where a call
+ * answers something else than it should. */
 #include <stdio.h>
 #include <stdlib.h>
 
@@ -22,8 +23,11 @@ static uint8_t marks[CELLS];
 static uint8_t session[DET_SESSION_LENGTH];
 static uint8_t reply[DET_REPLY_ROOM(WIDTH, HEIGHT)];
 
+static const uint8_t turn_on[] = {
+    255, 253, 20                              /* DO 20 */
+};
+
 static const uint8_t negotiate[] = {
-    255, 253, 20,                             /* DO 20 */
     255, 250, 20, 1, 0x7e, 255, 240,          /* what the host can do: EDIT FACILITIES */
     255, 250, 20, 2, 0x1f, 255, 240,          /* ERASE FACILITIES */
     255, 250, 20, 3, 0x3f, 255, 240,          /* TRANSMIT FACILITIES */
@@ -81,6 +85,12 @@ static void print_agreed(void)
     printf("\n");
 }
 
+static uint8_t open_with(size_t edition)
+{
+    return det_open(WIDTH, HEIGHT, edition, chars, sizeof chars, attrs, sizeof attrs,
+                    marks, sizeof marks, session, sizeof session);
+}
+
 /* Hands on all of the input: a call leaves the rest where the reply has no more room. */
 static void host(const uint8_t *input, size_t length)
 {
@@ -107,11 +117,10 @@ static void key(uint32_t code)
     print_reply(written);
 }
 
-int main(void)
+static void september(void)
 {
-    expect("det_open", DET_DONE,
-           det_open(WIDTH, HEIGHT, chars, sizeof chars, attrs, sizeof attrs,
-                    marks, sizeof marks, session, sizeof session));
+    expect("det_open", DET_DONE, open_with(DET_SEPTEMBER));
+    host(turn_on, sizeof turn_on);
     host(negotiate, sizeof negotiate);
     print_agreed();
     host(paint, sizeof paint);
@@ -122,6 +131,32 @@ int main(void)
     key(DET_KEY_SEND);
     printf("asked for what was touched\n");
     host(ask_for_touched, sizeof ask_for_touched);
+    printf("function key 1\n");
+    key(DET_KEY_FUNCTION(1));
+}
+
+static void june(void)
+{
+    expect("det_open", DET_DONE, open_with(DET_JUNE));
+    printf("a host that follows June's edition\n");
+    host(turn_on, sizeof turn_on);
+    printf("function key 1\n");
+    key(DET_KEY_FUNCTION(1));
+}
+
+/* Refused, it leaves a session of 0 by 0 and September's edition. */
+static void no_edition(void)
+{
+    expect("det_open with 733", DET_EDITION, open_with(733));
+    expect("columns then", 0, session[DET_AT_WIDTH]);
+    expect("edition then", 1, session[DET_AT_EDITION]);
+}
+
+int main(void)
+{
+    september();
+    june();
+    no_edition();
     expect("errors in writing this", 0, (size_t)(fflush(stdout) != 0));
     return 0;
 }

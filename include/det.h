@@ -47,7 +47,7 @@
  * Each function returns DET_DONE or the number of a refusal (DET_SIZE and so on). Where more than
  * one refusal holds, the first in this order is returned:
  *
- *   255, 1, 2, 3, 4, 11, 5, 9, 8, 6, 7, 10
+ *   255, 1, 12, 2, 3, 4, 11, 5, 9, 8, 6, 7, 10
  *
  * A refused call changes nothing: not the session, not one byte of a buffer; it sets both counts
  * to 0. (det_open, which makes a session, says below what it leaves.)
@@ -81,6 +81,30 @@
  * cells up. On a smaller screen the terminal answers DO 30 with WONT 30.
  *
  *
+ * Editions
+ *
+ * Option 20 has two editions, RFC 731 and RFC 732, in which some commands have different codes.
+ * det_open is told which of them the host follows, DET_JUNE or DET_SEPTEMBER. The session keeps it
+ * (DET_AT_EDITION), and no call changes it.
+ *
+ * Where a command has a number in this text, it is September's code. June's codes are, for these:
+ *
+ *   1 to 26    the same
+ *   27         none: there is no TRANSMIT MODIFIED
+ *   28 to 41   one lower each, so ERASE SCREEN (29) has 28. Those that the terminal sends too: DATA
+ *              TRANSMIT (28), FIELD SEPARATOR (39), FN (40) and ERROR (41) have 27, 38, 39 and 40
+ *
+ * An ERROR names the command by the code that came, in either edition.
+ *
+ * In June's edition the first byte of the terminal's own format map is DET_OWN_FORMAT_0_JUNE: its
+ * bit 6, that of 27, is off and governs nothing. Marks are set and cleared as in September's, and
+ * never asked for.
+ *
+ * All else is the same in both, also where RFC 731 has it otherwise. FORMAT DATA takes four
+ * parameters: a host that sends three, as RFC 731 has it, draws ERROR 10. ERROR's numbers are
+ * September's: from 9 on they are one higher than in RFC 731.
+ *
+ *
  * Facilities
  *
  * A host may use most commands of option 20 only where both ends have said that they can. With the
@@ -89,8 +113,8 @@
  * the one that came (DET_AT_MAPS), in place of any before it. A bit that is set in both is agreed.
  * DONT 20 while the option is on ends all agreement: the host then sends its maps anew.
  *
- * Until its bit is agreed, a command draws ERROR 1, the bytes 255 250 20 41 code 1 255 240, and
- * does nothing. Bits are numbered from the right, from 0:
+ * Until its bit is agreed, a command draws ERROR 1, the bytes 255 250 20 41 code 1 255 240 (40 and
+ * not 41 in June's edition), and does nothing. Bits are numbered from the right, from 0:
  *
  *   editing        6: commands 6 and 7; 5: 8 to 11; 4: 17; 3: 13 and 14; 2: 15 and 16; 1: 19
  *   erasing        4: 31; 3: 30; 2: 32; 1: 33; 0: 34
@@ -132,11 +156,17 @@ extern "C" {
  * well to keep m * n at 7,281 or less: then that length fits in 16 bits. */
 #define DET_WIDTH_MOST 132
 #define DET_HEIGHT_MOST 64
-#define DET_SESSION_LENGTH 211
+#define DET_SESSION_LENGTH 212
 #define DET_REPLY_ROOM(m, n) ((size_t)9 * (m) * (n))
 
 /* The first byte of every session: how the others are laid out. */
-#define DET_SESSION_VERSION 3
+#define DET_SESSION_VERSION 4
+
+/* The editions of option 20. */
+enum {
+    DET_JUNE = 731,     /* RFC 731, of June */
+    DET_SEPTEMBER = 732 /* RFC 732, of September */
+};
 
 /* Option 30: the fewest cells that it is accepted with, the most bytes that the edit line holds,
  * and how many parameters there are. */
@@ -162,6 +192,7 @@ enum {
     DET_NO_MEANING = 9,  /* a key that means nothing */
     DET_LINE_FULL = 10,  /* a key that would wait in the edit line, and the line is full */
     DET_MARK = 11,       /* a byte of marks is above 1; never of det_open */
+    DET_EDITION = 12,    /* edition is neither DET_JUNE nor DET_SEPTEMBER; of det_open alone */
     DET_NO_SESSION = 255 /* session is not DET_SESSION_LENGTH bytes long, or its bytes are no
                             session (below) */
 };
@@ -169,10 +200,10 @@ enum {
 /* The session, byte by byte.
  *
  * Bytes are no session where DET_AT_VERSION is not DET_SESSION_VERSION; DET_AT_ON, DET_AT_PAD_ON,
- * DET_AT_SUPPRESSED or DET_AT_CR is above 1; DET_AT_READER is above DET_READER_SUB_IAC, or
- * DET_AT_OPTION is not 0 while it is below DET_READER_SUB; DET_AT_STAGE is above DET_STAGE_VALUE,
- * DET_AT_CODE is not 0 while it is DET_STAGE_CODE, or DET_AT_WAITING is not 0 while it is below
- * DET_STAGE_VALUE. */
+ * DET_AT_SUPPRESSED, DET_AT_CR or DET_AT_EDITION is above 1; DET_AT_READER is above
+ * DET_READER_SUB_IAC, or DET_AT_OPTION is not 0 while it is below DET_READER_SUB; DET_AT_STAGE is
+ * above DET_STAGE_VALUE, DET_AT_CODE is not 0 while it is DET_STAGE_CODE, or DET_AT_WAITING is not
+ * 0 while it is below DET_STAGE_VALUE. */
 enum {
     DET_AT_VERSION = 0,      /* DET_SESSION_VERSION */
     DET_AT_WIDTH = 1,        /* M */
@@ -194,7 +225,8 @@ enum {
     DET_AT_CODE = 176,       /* the message's code, 0 before it */
     DET_AT_WAITING = 177,    /* the parameter that waits for its value, else 0 */
     DET_AT_COPY = 178,       /* DET_PARAMETER_COUNT values, as the message will have set them */
-    DET_AT_MAPS = 206        /* DET_MAP_COUNT facility maps received, of any value: DET_MAP_... */
+    DET_AT_MAPS = 206,       /* DET_MAP_COUNT facility maps received, of any value: DET_MAP_... */
+    DET_AT_EDITION = 211     /* 0 in June's edition, 1 in September's */
 };
 
 /* Where the value of parameter p stands, which is 0 to 22 or 128 to 132. The last four are in force
@@ -211,12 +243,13 @@ enum {
     DET_MAP_FORMAT_1 = 4  /* the second */
 };
 
-/* The terminal's own. */
+/* The terminal's own, of which one depends on the edition. */
 enum {
     DET_OWN_EDIT = 126,
     DET_OWN_ERASE = 31,
     DET_OWN_TRANSMIT = 63,
-    DET_OWN_FORMAT_0 = 208,
+    DET_OWN_FORMAT_0 = 208,      /* in September's */
+    DET_OWN_FORMAT_0_JUNE = 144, /* in June's */
     DET_OWN_FORMAT_1 = 121
 };
 
@@ -262,15 +295,15 @@ enum {
 };
 #define DET_KEY_FUNCTION(k) (127 + (k)) /* sends the number k, which is 1 to 16 */
 
-/* Opens a terminal of width columns by height lines: spaces in chars, zeros in attrs and marks and,
- * whatever was in its place, a new session: cursor at column 0 of line 0, both options off,
- * protection in effect, no facility agreed, nothing half read, nothing in the edit line, the
- * parameters at their start.
+/* Opens a terminal of width columns by height lines, with the codes of that edition: spaces in
+ * chars, zeros in attrs and marks and, whatever was in its place, a new session: cursor at column 0
+ * of line 0, both options off, protection in effect, no facility agreed, nothing half read, nothing
+ * in the edit line, the parameters at their start.
  *
- * Refused with 1 or 2 it leaves chars, attrs and marks alone and writes such a session of 0 by 0,
- * which the other two calls then refuse with 1. With 255, where the place for the session has
- * another length, it writes nothing at all. */
-uint8_t det_open(size_t width, size_t height,
+ * Refused with 1, 12 or 2 it leaves chars, attrs and marks alone and writes such a session of 0 by
+ * 0, of September's edition, which the other two calls then refuse with 1. With 255, where the
+ * place for the session has another length, it writes nothing at all. */
+uint8_t det_open(size_t width, size_t height, size_t edition,
                  uint8_t *chars, size_t chars_len,
                  uint8_t *attrs, size_t attrs_len,
                  uint8_t *marks, size_t marks_len,
@@ -293,8 +326,8 @@ uint8_t det_host(uint8_t *session, size_t session_len,
 
 /* Takes one key of the operator; *taken is then 1. It changes the session, chars and marks as the
  * key says, never attrs, and writes what is to be sent into reply. What is half read from the host
- * stays so. Refusals: any of the numbers; for a key that the edit line takes, 10 alone of those
- * after 5. */
+ * stays so. Refusals: any of the numbers but 12; for a key that the edit line takes, 10 alone of
+ * those after 5. */
 uint8_t det_key(uint8_t *session, size_t session_len,
                 uint32_t key,
                 uint8_t *chars, size_t chars_len,

@@ -1,7 +1,7 @@
 //! The terminal under measure, by `host`'s wrapper, with the buffers that it
 //! is lent.
 
-use host::terminal::{self, at, Counts, Session};
+use host::terminal::{self, at, Counts, Session, SEPTEMBER};
 
 use crate::size::Size;
 use crate::streams::{begin, TO_LINE};
@@ -16,12 +16,14 @@ pub struct Ours {
 }
 
 impl Ours {
-    /// A new screen, with option 20 on.
+    /// A new screen of September's edition, with option 20 on.
     pub fn open(size: Size) -> Ours {
         let zeros = || vec![0; size.cells()];
         let (mut chars, mut attrs, mut marks) = (zeros(), zeros(), zeros());
         let (columns, lines) = (size.columns, size.lines);
-        let session = terminal::open(columns, lines, &mut chars, &mut attrs, &mut marks);
+        let session = terminal::open(
+            columns, lines, SEPTEMBER, &mut chars, &mut attrs, &mut marks,
+        );
         let mut ours = Ours {
             session: session.expect("the size is one"),
             chars,

@@ -1,5 +1,6 @@
 //! The oracle's core in Rust, with the buffers that it is lent.
 
+use host::terminal::SEPTEMBER;
 use oracle::terminal::{Buffers, Lent, Outcome, Terminal};
 use oracle::variant::Variant;
 use oracle::watch::Unwatched;
@@ -16,7 +17,7 @@ pub struct RustCore {
 }
 
 impl RustCore {
-    /// A new screen, with option 20 on.
+    /// A new screen of September's edition, with option 20 on.
     pub fn open(size: Size) -> RustCore {
         let mut core = RustCore {
             terminal: Terminal::new(Variant::None),
@@ -25,13 +26,13 @@ impl RustCore {
             marks: vec![0; size.cells()],
             reply: vec![0; size.room()],
         };
-        let (columns, lines) = (size.columns as u16, size.lines as u16);
+        let (columns, lines, edition) = (size.columns as u16, size.lines as u16, SEPTEMBER as u16);
         let buffers = Buffers {
             chars: &mut core.chars,
             attrs: &mut core.attrs,
             marks: &mut core.marks,
         };
-        let outcome = core.terminal.open(columns, lines, buffers);
+        let outcome = core.terminal.open(columns, lines, edition, buffers);
         assert_eq!(outcome.refusal, None, "the size is one");
         for bytes in begin() {
             core.take(&bytes);

@@ -12,6 +12,7 @@ extern "C" {
     fn det_open(
         width: usize,
         height: usize,
+        edition: usize,
         chars: *mut u8,
         chars_len: usize,
         attrs: *mut u8,
@@ -60,6 +61,7 @@ extern "C" {
 pub fn open(
     width: usize,
     height: usize,
+    edition: usize,
     chars: &mut [u8],
     attrs: &mut [u8],
     marks: &mut [u8],
@@ -70,6 +72,7 @@ pub fn open(
         det_open(
             width,
             height,
+            edition,
             chars.as_mut_ptr(),
             chars.len(),
             attrs.as_mut_ptr(),

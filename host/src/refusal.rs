@@ -18,10 +18,11 @@ pub enum Refusal {
     NoMeaning = 9,
     LineFull = 10,
     Mark = 11,
+    Edition = 12,
 }
 
 impl Refusal {
-    pub const ALL: [Refusal; 11] = [
+    pub const ALL: [Refusal; 12] = [
         Refusal::Size,
         Refusal::Length,
         Refusal::Character,
@@ -33,6 +34,7 @@ impl Refusal {
         Refusal::NoMeaning,
         Refusal::LineFull,
         Refusal::Mark,
+        Refusal::Edition,
     ];
 
     pub fn number(self) -> u8 {
@@ -59,6 +61,7 @@ impl Refusal {
             Refusal::NoMeaning => "the key has no meaning",
             Refusal::LineFull => "the edit line is full",
             Refusal::Mark => "a mark is neither 0 nor 1",
+            Refusal::Edition => "the edition is neither 731 nor 732",
         }
     }
 }

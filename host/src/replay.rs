@@ -34,11 +34,12 @@ impl Replay {
                 chars,
                 attrs,
                 marks,
+                edition,
             } => {
                 self.chars = vec![LENT_CHAR; chars];
                 self.attrs = vec![LENT_ATTR; attrs];
                 self.marks = vec![LENT_MARK; marks];
-                self.open(width, height)
+                self.open(width, height, edition)
             }
             Line::Host { input, room } => self.host(&input, room),
             Line::Key { key, room } => self.key(key, room),
@@ -51,10 +52,11 @@ impl Replay {
         self.call_line(outcome)
     }
 
-    fn open(&mut self, width: usize, height: usize) -> Outcome {
+    fn open(&mut self, width: usize, height: usize, edition: usize) -> Outcome {
         self.reply.clear();
         let (chars, attrs, marks) = (&mut self.chars, &mut self.attrs, &mut self.marks);
-        let (session, outcome) = match terminal::open(width, height, chars, attrs, marks) {
+        let opened = terminal::open(width, height, edition, chars, attrs, marks);
+        let (session, outcome) = match opened {
             Ok(session) => (session, Ok(Counts::default())),
             Err((refusal, session)) => (session, Err(refusal)),
         };
@@ -106,7 +108,7 @@ impl Replay {
         };
         let (session, cursor) = (&self.session, self.session.cursor());
         format!(
-            "{answer} {} {} {} {} {} {} {} {} {} {} {} {} {} {} {} {}",
+            "{answer} {} {} {} {} {} {} {} {} {} {} {} {} {} {} {} {} {}",
             counts.taken,
             counts.written,
             hex(&self.reply),
@@ -122,7 +124,8 @@ impl Replay {
             hex(session.line()),
             hex(session.parameters()),
             hex(&session.agreed_maps()),
-            hex(&self.marks)
+            hex(&self.marks),
+            session.edition()
         )
     }
 

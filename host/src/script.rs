@@ -11,6 +11,7 @@ pub enum Line {
         chars: usize,
         attrs: usize,
         marks: usize,
+        edition: usize,
     },
     Host {
         input: Vec<u8>,
@@ -35,6 +36,7 @@ pub enum Line {
 }
 
 const MOST_SIZE: usize = 65_535;
+const MOST_EDITION: usize = 65_535;
 const MOST_CELLS: usize = 8_448;
 const MOST_INPUT: usize = 65_536;
 const MOST_ROOM: usize = 80_000;
@@ -50,6 +52,7 @@ impl Line {
                 chars: fields.number(MOST_CELLS)?,
                 attrs: fields.number(MOST_CELLS)?,
                 marks: fields.number(MOST_CELLS)?,
+                edition: fields.number(MOST_EDITION)?,
             },
             b"host" => Line::Host {
                 input: fields.bytes(MOST_INPUT)?,

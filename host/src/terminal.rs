@@ -4,14 +4,17 @@
 //! Beside its character and its attribute byte each cell has a mark: 1 where it
 //! was touched, else 0. TRANSMIT MODIFIED sends the fields that have one.
 //!
+//! A terminal is opened with the edition of option 20 that its host follows:
+//! [`JUNE`] or [`SEPTEMBER`]. `include/det.h` says what differs.
+//!
 //! Nothing that is lent can overlap: every buffer that a call may change is a
 //! `&mut` of its own, so a call with one buffer in two places does not compile.
 //!
 //! ```
-//! use host::terminal::{self, reply_room};
+//! use host::terminal::{self, reply_room, SEPTEMBER};
 //!
 //! let (mut chars, mut attrs, mut marks) = ([0; 16], [0; 16], [0; 16]);
-//! let mut session = terminal::open(8, 2, &mut chars, &mut attrs, &mut marks).unwrap();
+//! let mut session = terminal::open(8, 2, SEPTEMBER, &mut chars, &mut attrs, &mut marks).unwrap();
 //! let mut reply = [0; reply_room(8, 2)];
 //! let counts = session.host_bytes(b"HI", &mut chars, &mut attrs, &mut marks, &mut reply).unwrap();
 //! assert_eq!((counts.taken, counts.written), (2, 0));
@@ -19,10 +22,10 @@
 //! ```
 //!
 //! ```compile_fail,E0499
-//! use host::terminal::{self, reply_room};
+//! use host::terminal::{self, reply_room, SEPTEMBER};
 //!
 //! let (mut chars, mut attrs, mut marks) = ([0; 16], [0; 16], [0; 16]);
-//! let mut session = terminal::open(8, 2, &mut chars, &mut attrs, &mut marks).unwrap();
+//! let mut session = terminal::open(8, 2, SEPTEMBER, &mut chars, &mut attrs, &mut marks).unwrap();
 //! let mut reply = [0; reply_room(8, 2)];
 //! let counts = session.host_bytes(b"HI", &mut chars, &mut chars, &mut marks, &mut reply).unwrap();
 //! ```
@@ -53,10 +56,15 @@ pub mod at {
     pub const WAITING: usize = 177;
     pub const COPY: usize = 178;
     pub const MAPS: usize = 206;
+    pub const EDITION: usize = 211;
 }
 
-pub const SESSION_LENGTH: usize = 211;
-pub const SESSION_VERSION: u8 = 3;
+pub const SESSION_LENGTH: usize = 212;
+pub const SESSION_VERSION: u8 = 4;
+
+/// The editions of option 20: RFC 731 and RFC 732.
+pub const JUNE: usize = 731;
+pub const SEPTEMBER: usize = 732;
 
 /// The fewest cells that option 30 is accepted with.
 pub const PAD_CELLS: usize = 37;
@@ -70,8 +78,10 @@ pub const PARAMETER_COUNT: usize = 28;
 /// How many bytes facility maps are: edit, erase, transmit, and two of format.
 pub const MAP_COUNT: usize = 5;
 
-/// The terminal's own, in that order.
+/// The terminal's own, in that order: those of September's edition, and of
+/// June's.
 pub const OWN_MAPS: [u8; MAP_COUNT] = [126, 31, 63, 208, 121];
+pub const OWN_MAPS_JUNE: [u8; MAP_COUNT] = [126, 31, 63, 144, 121];
 
 const DONE: u8 = 0;
 const NO_SESSION: u8 = 255;
@@ -87,10 +97,11 @@ pub const fn reply_room(width: usize, height: usize) -> usize {
 pub struct Session([u8; SESSION_LENGTH]);
 
 impl Default for Session {
-    /// What a refused [`open`] leaves: 0 by 0, refused with 1 by every call.
+    /// What a refused [`open`] leaves: 0 by 0, refused with 1 by every call,
+    /// of September's edition.
     fn default() -> Session {
         let mut session = Session([0; SESSION_LENGTH]);
-        raw::open(0, 0, &mut [], &mut [], &mut [], &mut session.0);
+        raw::open(0, 0, SEPTEMBER, &mut [], &mut [], &mut [], &mut session.0);
         session
     }
 }
@@ -125,13 +136,14 @@ pub struct Counts {
     pub written: usize,
 }
 
-/// Opens a screen: spaces, attributes 0, no cell marked, a new session. Refused,
-/// it changes no buffer.
+/// Opens a screen: spaces, attributes 0, no cell marked, a new session with the
+/// codes of this edition. Refused, it changes no buffer.
 // A session is as long where it is opened.
 #[allow(clippy::result_large_err)]
 pub fn open(
     width: usize,
     height: usize,
+    edition: usize,
     chars: &mut [u8],
     attrs: &mut [u8],
     marks: &mut [u8],
@@ -140,6 +152,7 @@ pub fn open(
     match answer(raw::open(
         width,
         height,
+        edition,
         chars,
         attrs,
         marks,
@@ -219,6 +232,14 @@ impl Session {
         usize::from(self.0[at::HEIGHT])
     }
 
+    /// The edition that it was opened with, [`JUNE`] or [`SEPTEMBER`].
+    pub fn edition(&self) -> usize {
+        match self.0[at::EDITION] {
+            0 => JUNE,
+            _ => SEPTEMBER,
+        }
+    }
+
     pub fn cursor(&self) -> Cursor {
         Cursor {
             x: self.0[at::X],
@@ -294,10 +315,18 @@ impl Session {
         &self.0[at::MAPS..][..MAP_COUNT]
     }
 
+    /// The terminal's own facility maps, which go by its edition.
+    pub fn own_maps(&self) -> [u8; MAP_COUNT] {
+        match self.edition() {
+            JUNE => OWN_MAPS_JUNE,
+            _ => OWN_MAPS,
+        }
+    }
+
     /// The facilities that are agreed: those in the maps received and in the
     /// terminal's own. A command that another bit governs draws ERROR 1.
     pub fn agreed_maps(&self) -> [u8; MAP_COUNT] {
-        let mut agreed = OWN_MAPS;
+        let mut agreed = self.own_maps();
         for (map, received) in agreed.iter_mut().zip(self.received_maps()) {
             *map &= received;
         }

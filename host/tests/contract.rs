@@ -8,7 +8,8 @@ use std::collections::BTreeSet;
 use host::raw;
 use host::refusal::Refusal;
 use host::terminal::{self, at, reply_room, Counts, Cursor, Reader, Session};
-use host::terminal::{LINE_MOST, OWN_MAPS, SESSION_LENGTH, SESSION_VERSION};
+use host::terminal::{JUNE, LINE_MOST, OWN_MAPS, OWN_MAPS_JUNE, SEPTEMBER};
+use host::terminal::{SESSION_LENGTH, SESSION_VERSION};
 
 use form::{form, marked, F, P};
 use lent::Call::{self, Host, Key};
@@ -47,6 +48,10 @@ const REFUSALS: &[Row] = &[
         lent.session.truncate(206);
         lent.session[at::VERSION] = 2;
     }),
+    (255, |lent| {
+        lent.session.truncate(211);
+        lent.session[at::VERSION] = 3;
+    }),
     (255, |lent| lent.session[at::VERSION] = 0),
     (255, |lent| lent.session[at::VERSION] = SESSION_VERSION - 1),
     (255, |lent| lent.session[at::VERSION] = SESSION_VERSION + 1),
@@ -54,6 +59,7 @@ const REFUSALS: &[Row] = &[
     (255, |lent| lent.session[at::PAD_ON] = 2),
     (255, |lent| lent.session[at::SUPPRESSED] = 2),
     (255, |lent| lent.session[at::CR] = 2),
+    (255, |lent| lent.session[at::EDITION] = 2),
     (255, |lent| lent.session[at::READER] = 10),
     (255, |lent| lent.session[at::OPTION] = 1),
     (255, |lent| {
@@ -165,6 +171,7 @@ fn every_refusal_leaves_all_as_it_came() {
         }
         seen.insert(number);
     }
+    // All but 12, which is open's alone.
     assert!(seen.into_iter().eq((1..=11).chain([255])));
 }
 
@@ -185,7 +192,8 @@ const TAKEN: &[Change] = &[
     },
     |lent| lent.session[at::PARAMETERS..at::LINE_LENGTH].copy_from_slice(&MOST),
     |lent| lent.session[at::COPY..at::MAPS].copy_from_slice(&MOST),
-    |lent| lent.session[at::MAPS..].fill(0),
+    |lent| lent.session[at::MAPS..at::EDITION].fill(0),
+    |lent| lent.session[at::EDITION] = 0,
     |lent| lent.reply.push(LENT),
     |lent| lent.session[at::ON] = 0,
     |lent| lent.attrs.fill(255),
@@ -204,55 +212,69 @@ fn what_is_not_refused_is_done() {
 
 const S: usize = SESSION_LENGTH;
 
-/// The answer; width and height; the lengths of characters, attributes, marks
-/// and the place for the session.
-const OPENS: &[(u8, [usize; 2], [usize; 4])] = &[
-    (0, [8, 2], [16, 16, 16, S]),
-    (0, [1, 1], [1, 1, 1, S]),
-    (0, [132, 64], [8448, 8448, 8448, S]),
-    (1, [133, 64], [8512, 8512, 8512, S]),
-    (1, [132, 65], [8580, 8580, 8580, S]),
-    (1, [0, 2], [0, 0, 0, S]),
-    (1, [8, 0], [0, 0, 0, S]),
-    (1, [0, 0], [1, 1, 1, S]),
-    (1, [256 + 8, 2], [16, 16, 16, S]),
-    (1, [8, (1 << 32) + 2], [16, 16, 16, S]),
-    (1, [usize::MAX, usize::MAX], [1, 1, 1, S]),
-    (2, [8, 2], [15, 16, 16, S]),
-    (2, [8, 2], [17, 16, 16, S]),
-    (2, [8, 2], [16, 15, 16, S]),
-    (2, [8, 2], [16, 17, 16, S]),
-    (2, [8, 2], [16, 16, 15, S]),
-    (2, [8, 2], [16, 16, 17, S]),
-    (2, [8, 2], [16, 16, 0, S]),
-    (2, [8, 2], [0, 0, 0, S]),
-    (255, [8, 2], [16, 16, 16, S - 1]),
-    (255, [8, 2], [16, 16, 16, S + 1]),
-    (255, [8, 2], [16, 16, 16, 206]),
-    (255, [8, 2], [16, 16, 16, 15]),
-    (255, [0, 0], [1, 1, 1, 0]),
+/// The answer; width, height and edition; the lengths of characters,
+/// attributes, marks and the place for the session.
+const OPENS: &[(u8, [usize; 3], [usize; 4])] = &[
+    (0, [8, 2, 732], [16, 16, 16, S]),
+    (0, [8, 2, 731], [16, 16, 16, S]),
+    (0, [1, 1, 732], [1, 1, 1, S]),
+    (0, [132, 64, 732], [8448, 8448, 8448, S]),
+    (1, [133, 64, 732], [8512, 8512, 8512, S]),
+    (1, [132, 65, 732], [8580, 8580, 8580, S]),
+    (1, [0, 2, 732], [0, 0, 0, S]),
+    (1, [8, 0, 732], [0, 0, 0, S]),
+    (1, [0, 0, 732], [1, 1, 1, S]),
+    (1, [256 + 8, 2, 732], [16, 16, 16, S]),
+    (1, [8, (1 << 32) + 2, 732], [16, 16, 16, S]),
+    (1, [usize::MAX, usize::MAX, 732], [1, 1, 1, S]),
+    (1, [0, 2, 731], [0, 0, 0, S]),
+    (1, [0, 2, 733], [0, 0, 0, S]),
+    (12, [8, 2, 730], [16, 16, 16, S]),
+    (12, [8, 2, 733], [16, 16, 16, S]),
+    (12, [8, 2, 0], [16, 16, 16, S]),
+    (12, [8, 2, 1], [16, 16, 16, S]),
+    (12, [8, 2, (1 << 16) + 731], [16, 16, 16, S]),
+    (12, [8, 2, (1 << 32) + 732], [16, 16, 16, S]),
+    (12, [8, 2, usize::MAX], [16, 16, 16, S]),
+    (12, [8, 2, 733], [15, 16, 16, S]),
+    (2, [8, 2, 732], [15, 16, 16, S]),
+    (2, [8, 2, 731], [16, 15, 16, S]),
+    (2, [8, 2, 732], [17, 16, 16, S]),
+    (2, [8, 2, 732], [16, 15, 16, S]),
+    (2, [8, 2, 732], [16, 17, 16, S]),
+    (2, [8, 2, 732], [16, 16, 15, S]),
+    (2, [8, 2, 732], [16, 16, 17, S]),
+    (2, [8, 2, 732], [16, 16, 0, S]),
+    (2, [8, 2, 732], [0, 0, 0, S]),
+    (255, [8, 2, 732], [16, 16, 16, S - 1]),
+    (255, [8, 2, 732], [16, 16, 16, S + 1]),
+    (255, [8, 2, 733], [16, 16, 16, S - 1]),
+    (255, [8, 2, 732], [16, 16, 16, 206]),
+    (255, [8, 2, 732], [16, 16, 16, 15]),
+    (255, [0, 0, 732], [1, 1, 1, 0]),
 ];
 
 #[test]
 fn open_done_and_refused() {
-    for &(number, [width, height], [c, a, m, s]) in OPENS {
+    for &(number, [width, height, edition], [c, a, m, s]) in OPENS {
         // What stands in the buffers counts for nothing.
         let (mut chars, mut attrs, mut marks) = (vec![200; c], vec![0x11; a], vec![2; m]);
         let mut session = vec![LENT; s];
         let answer = raw::open(
             width,
             height,
+            edition,
             &mut chars,
             &mut attrs,
             &mut marks,
             &mut session,
         );
         let ([char, attr, mark], fresh) = match number {
-            0 => ([b' ', 0, 0], fresh(width as u8, height as u8)),
+            0 => ([b' ', 0, 0], fresh(width as u8, height as u8, edition)),
             255 => ([200, 0x11, 2], vec![LENT; s]),
-            _ => ([200, 0x11, 2], fresh(0, 0)),
+            _ => ([200, 0x11, 2], fresh(0, 0, SEPTEMBER)),
         };
-        let case = format!("open {width} {height} with {c}, {a}, {m} and {s}");
+        let case = format!("open {width} {height} {edition} with {c}, {a}, {m} and {s}");
         assert_eq!((answer, session), (number, fresh), "{case}");
         assert_eq!((chars, attrs), (vec![char; c], vec![attr; a]), "{case}");
         assert_eq!(marks, vec![mark; m], "{case}");
@@ -262,15 +284,17 @@ fn open_done_and_refused() {
 #[test]
 fn a_refused_open_leaves_a_session_that_is_refused() {
     let (mut chars, mut attrs, mut marks, mut reply) = ([0; 2], [0; 2], [0; 2], [0; 99]);
-    let refused = terminal::open(2, 0, &mut chars, &mut attrs, &mut marks);
+    let refused = terminal::open(2, 0, JUNE, &mut chars, &mut attrs, &mut marks);
     assert_eq!(refused, Err((Refusal::Size, Session::default())));
     let mut session = Session::default();
-    assert_eq!(session.as_bytes()[..], fresh(0, 0));
+    assert_eq!(session.as_bytes()[..], fresh(0, 0, SEPTEMBER));
     let host = session.host_bytes(b"A", &mut chars, &mut attrs, &mut marks, &mut reply);
     let key = session.key(9, &mut chars, &attrs, &mut marks, &mut reply);
     assert_eq!((host, key), (Err(Refusal::Size), Err(Refusal::Size)));
-    let refused = terminal::open(2, 1, &mut chars, &mut attrs, &mut marks[..1]);
+    let refused = terminal::open(2, 1, JUNE, &mut chars, &mut attrs, &mut marks[..1]);
     assert_eq!(refused, Err((Refusal::Length, Session::default())));
+    let refused = terminal::open(2, 1, 733, &mut chars, &mut attrs, &mut marks);
+    assert_eq!(refused, Err((Refusal::Edition, Session::default())));
 }
 
 /// A name, the cursor, the call; then the screen, the cursor and the reply.
@@ -372,7 +396,7 @@ const AGREEING: &[Agreeing] = &[
 #[test]
 fn facilities_are_agreed_first() {
     let mut lent = form(3, 0);
-    lent.session[at::MAPS..].fill(0);
+    lent.session[at::MAPS..at::EDITION].fill(0);
     lent.reply = vec![LENT; 1000];
     for &(input, expected, line) in AGREEING {
         let (after, replies) = cut_anywhere(&lent, input);
@@ -386,7 +410,8 @@ fn facilities_are_agreed_first() {
 #[test]
 fn what_show_prints() {
     let (mut chars, mut attrs, mut marks) = ([0; 16], [1; 16], [1; 16]);
-    let mut session = terminal::open(8, 2, &mut chars, &mut attrs, &mut marks).expect("a size");
+    let session = terminal::open(8, 2, SEPTEMBER, &mut chars, &mut attrs, &mut marks);
+    let mut session = session.expect("a size");
     let mut reply = [0; reply_room(8, 2)];
     let counts = session.host_bytes(b"HI", &mut chars, &mut attrs, &mut marks, &mut reply);
     let expected = Counts {
@@ -461,12 +486,15 @@ fn whole(reader: u8, stage: u8) -> [u8; SESSION_LENGTH] {
     let (code, waiting) = [(0, 0), (7, 0), (7, 200)][usize::from(stage)];
     bytes[at::STAGE..at::COPY].copy_from_slice(&[stage, code, waiting]);
     bytes[at::COPY..at::MAPS].copy_from_slice(&MOST);
-    bytes[at::MAPS..].copy_from_slice(&MAPS);
+    bytes[at::MAPS..at::EDITION].copy_from_slice(&MAPS);
+    bytes[at::EDITION] = 1;
     bytes
 }
 
+/// The places of what is 0 or 1.
+const FLAGS: [usize; 5] = [at::ON, at::PAD_ON, at::SUPPRESSED, at::CR, at::EDITION];
+
 fn is_session(bytes: &[u8; SESSION_LENGTH]) -> bool {
-    let flags = [at::ON, at::PAD_ON, at::SUPPRESSED, at::CR];
     let reader = match bytes[at::READER] {
         0..=7 => bytes[at::OPTION] == 0,
         8 | 9 => true,
@@ -475,7 +503,7 @@ fn is_session(bytes: &[u8; SESSION_LENGTH]) -> bool {
     let message = [bytes[at::STAGE], bytes[at::CODE], bytes[at::WAITING]];
     let message = matches!(message, [0, 0, 0] | [1, _, 0] | [2, _, _]);
     let version = bytes[at::VERSION] == SESSION_VERSION;
-    version && flags.iter().all(|flag| bytes[*flag] <= 1) && reader && message
+    version && FLAGS.iter().all(|flag| bytes[*flag] <= 1) && reader && message
 }
 
 #[test]
@@ -496,14 +524,11 @@ fn the_bytes_of_a_session() {
 #[test]
 fn a_session_is_read_and_written_as_the_same_bytes() {
     for (reader, stage) in (0..=9).flat_map(|reader| [0, 1, 2].map(|stage| (reader, stage))) {
-        for flags in 0..16 {
+        for flags in 0..32 {
             for count in 0..=6 {
                 let mut lent = Lent::open(37, 2);
                 lent.session = whole(reader, stage).to_vec();
-                for (bit, flag) in [at::ON, at::PAD_ON, at::SUPPRESSED, at::CR]
-                    .iter()
-                    .enumerate()
-                {
+                for (bit, flag) in FLAGS.iter().enumerate() {
                     lent.session[*flag] = flags >> bit & 1;
                 }
                 lent.session[at::HELD_COUNT] = count;
@@ -532,9 +557,12 @@ fn the_parts_of_a_session() {
     assert_eq!(session.parameters(), MOST);
     assert_eq!(session.received_maps(), MAPS);
     assert_eq!(session.agreed_maps(), [0x5a, 0x01, 0x14, 0xd0, 0x01]);
-    bytes[at::MAPS..].fill(255);
-    let session = Session::from_bytes(bytes).expect("a session");
-    assert_eq!(session.agreed_maps(), OWN_MAPS);
+    bytes[at::MAPS..at::EDITION].fill(255);
+    for (byte, edition, own) in [(0, JUNE, OWN_MAPS_JUNE), (1, SEPTEMBER, OWN_MAPS)] {
+        bytes[at::EDITION] = byte;
+        let session = Session::from_bytes(bytes).expect("a session");
+        assert_eq!((session.edition(), session.agreed_maps()), (edition, own));
+    }
 }
 
 #[test]
@@ -563,7 +591,8 @@ const READERS: &[(&[u8], Reader)] = &[
 fn where_the_reader_stands() {
     for &(input, reader) in READERS {
         let (mut chars, mut attrs, mut marks) = ([0; 1], [0; 1], [0; 1]);
-        let mut session = terminal::open(1, 1, &mut chars, &mut attrs, &mut marks).expect("a size");
+        let session = terminal::open(1, 1, SEPTEMBER, &mut chars, &mut attrs, &mut marks);
+        let mut session = session.expect("a size");
         let mut reply = [0; reply_room(1, 1)];
         let counts = session.host_bytes(input, &mut chars, &mut attrs, &mut marks, &mut reply);
         assert_eq!(counts.map(|counts| counts.taken), Ok(input.len()));
@@ -575,7 +604,7 @@ fn where_the_reader_stands() {
 fn refusals_have_their_numbers() {
     for number in 0..=255 {
         let refusal = Refusal::of_number(number);
-        let expected = (1..=11).contains(&number).then_some(number);
+        let expected = (1..=12).contains(&number).then_some(number);
         assert_eq!(refusal.map(Refusal::number), expected);
     }
     let said = Refusal::Guarded.to_string();

@@ -2,8 +2,8 @@
 
 use host::refusal::Refusal;
 use host::terminal::{at, reply_room, Reader, Session};
-use host::terminal::{LINE_MOST, MAP_COUNT, OWN_MAPS, PAD_CELLS, PARAMETER_COUNT};
-use host::terminal::{SESSION_LENGTH, SESSION_VERSION};
+use host::terminal::{JUNE, LINE_MOST, MAP_COUNT, OWN_MAPS, OWN_MAPS_JUNE, PAD_CELLS};
+use host::terminal::{PARAMETER_COUNT, SEPTEMBER, SESSION_LENGTH, SESSION_VERSION};
 
 const HEADER: &str = include_str!("../../include/det.h");
 
@@ -41,6 +41,7 @@ fn the_layout_of_a_session() {
         ("WAITING", at::WAITING),
         ("COPY", at::COPY),
         ("MAPS", at::MAPS),
+        ("EDITION", at::EDITION),
     ];
     for (name, place) in parts {
         assert_eq!(number(&format!("DET_AT_{name}")), place, "{name}");
@@ -81,6 +82,15 @@ fn facility_maps() {
 }
 
 #[test]
+fn editions() {
+    assert_eq!(number("DET_JUNE"), JUNE);
+    assert_eq!(number("DET_SEPTEMBER"), SEPTEMBER);
+    let mut june = OWN_MAPS;
+    june[3] = number("DET_OWN_FORMAT_0_JUNE") as u8;
+    assert_eq!(june, OWN_MAPS_JUNE);
+}
+
+#[test]
 fn refusals() {
     let names = [
         ("SIZE", Refusal::Size),
@@ -94,6 +104,7 @@ fn refusals() {
         ("NO_MEANING", Refusal::NoMeaning),
         ("LINE_FULL", Refusal::LineFull),
         ("MARK", Refusal::Mark),
+        ("EDITION", Refusal::Edition),
     ];
     for (name, refusal) in names {
         let expected = usize::from(refusal.number());

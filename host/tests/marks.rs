@@ -150,7 +150,7 @@ fn the_longest_reply_fills_the_room() {
 fn bytes_are_counted_beyond_16_bits() {
     let mut lent = Lent::open(132, 64);
     lent.session[at::ON] = 1;
-    lent.session[at::MAPS..].fill(255);
+    lent.session[at::MAPS..at::EDITION].fill(255);
     for (attr, bit) in lent.attrs.iter_mut().zip([0, 1].into_iter().cycle()) {
         *attr = bit;
     }

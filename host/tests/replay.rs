@@ -8,78 +8,126 @@ fn answers(script: &[u8]) -> String {
     String::from_utf8(output).expect("answers are ASCII")
 }
 
-/// What an answer ends with after open: option 30 off, an empty line, the
+/// What an answer says after open: option 30 off, an empty line, the
 /// parameters at their start, nothing agreed.
 const AT_START: &str = " 0 - 00000000000000000000000000000000000000000000000000131100 0000000000";
 
-/// A script of calls, its last answer up to option 30, and the marks at its end.
+/// A script of calls, its last answer up to option 30, and what that ends with:
+/// the marks and the edition.
 const CALLS: &[(&str, &str, &str)] = &[
-    ("host 41 3", "1 0 0 a5a5a5 0 0 0 0 0 0 - -", "-"),
-    ("cursor 3 4\nkey 65 1", "1 0 0 a5 0 0 3 4 0 0 - -", "-"),
-    ("open 2 1 2 2 2", "0 0 0 - 2 1 0 0 0 0 2020 0000", "0000"),
-    ("open 2 1 2 3 2", "2 0 0 - 0 0 0 0 0 0 2a2a 111111", "0101"),
-    ("open 2 1 2 2 3", "2 0 0 - 0 0 0 0 0 0 2a2a 1111", "010101"),
+    ("host 41 3", "1 0 0 a5a5a5 0 0 0 0 0 0 - -", "- 732"),
+    ("cursor 3 4\nkey 65 1", "1 0 0 a5 0 0 3 4 0 0 - -", "- 732"),
     (
-        "key 9 2\nopen 65535 0 0 8448 1\nopen 001 01 1 1 01\n",
-        "0 0 0 - 1 1 0 0 0 0 20 00",
-        "00",
+        "open 2 1 2 2 2 732",
+        "0 0 0 - 2 1 0 0 0 0 2020 0000",
+        "0000 732",
     ),
     (
-        "open 1 1 1 1 1\nhost 41fffd0342 9",
+        "open 2 1 2 3 2 732",
+        "2 0 0 - 0 0 0 0 0 0 2a2a 111111",
+        "0101 732",
+    ),
+    (
+        "open 2 1 2 2 3 732",
+        "2 0 0 - 0 0 0 0 0 0 2a2a 1111",
+        "010101 732",
+    ),
+    (
+        "key 9 2\nopen 65535 0 0 8448 1 732\nopen 001 01 1 1 01 732\n",
+        "0 0 0 - 1 1 0 0 0 0 20 00",
+        "00 732",
+    ),
+    (
+        "open 2 1 2 2 2 731",
+        "0 0 0 - 2 1 0 0 0 0 2020 0000",
+        "0000 731",
+    ),
+    (
+        "open 2 1 2 2 2 733",
+        "12 0 0 - 0 0 0 0 0 0 2a2a 1111",
+        "0101 732",
+    ),
+    (
+        "open 2 1 2 2 1 65535",
+        "12 0 0 - 0 0 0 0 0 0 2a2a 1111",
+        "01 732",
+    ),
+    (
+        "open 1 1 1 1 1 731\nopen 0 1 1 1 1 733",
+        "1 0 0 - 0 0 0 0 0 0 2a 11",
+        "01 732",
+    ),
+    (
+        "open 1 1 1 1 1 731\nopen 1 1 1 1 0 00731",
+        "2 0 0 - 0 0 0 0 0 0 2a 11",
+        "- 732",
+    ),
+    (
+        "open 1 1 1 1 1 732\nhost 41fffd0342 9",
         "0 4 3 fffc03a5a5a5a5a5a5 1 1 0 0 0 0 41 00",
-        "00",
+        "00 732",
     ),
     (
-        "open 1 1 1 1 1\ndet 1\nkey 143 9",
+        "open 1 1 1 1 1 732\ndet 1\nkey 143 9",
         "0 1 7 fffa142810fff0a5a5 1 1 0 0 1 0 20 00",
-        "00",
+        "00 732",
     ),
     (
-        "open 1 1 1 1 1\nkey 65 8",
+        "open 1 1 1 1 1 731\ndet 1\nkey 143 9",
+        "0 1 7 fffa142710fff0a5a5 1 1 0 0 1 0 20 00",
+        "00 731",
+    ),
+    (
+        "open 1 1 1 1 1 731\ndet 1\nkey 144 9",
+        "9 0 0 a5a5a5a5a5a5a5a5a5 1 1 0 0 1 0 20 00",
+        "00 731",
+    ),
+    (
+        "open 1 1 1 1 1 732\nkey 65 8",
         "5 0 0 a5a5a5a5a5a5a5a5 1 1 0 0 0 0 20 00",
-        "00",
+        "00 732",
     ),
     (
-        "open 1 1 1 1 1\nattrs 08\nsuppress 1\nkey 97 9",
+        "open 1 1 1 1 1 732\nattrs 08\nsuppress 1\nkey 97 9",
         "0 1 0 a5a5a5a5a5a5a5a5a5 1 1 0 0 0 1 61 08",
-        "01",
+        "01 732",
     ),
     (
-        "open 1 1 1 1 1\nchars 1f\nhost - 0",
+        "open 1 1 1 1 1 732\nchars 1f\nhost - 0",
         "3 0 0 - 1 1 0 0 0 0 1f 00",
-        "00",
+        "00 732",
     ),
     (
-        "open 1 1 1 1 1\nheld 7\nkey 255 0",
+        "open 1 1 1 1 1 732\nheld 7\nkey 255 0",
         "4 0 0 - 1 1 0 0 0 0 20 00",
-        "00",
+        "00 732",
     ),
     (
-        "open 1 1 1 1 1\nmarks 02\nkey 255 0",
+        "open 1 1 1 1 1 732\nmarks 02\nkey 255 0",
         "11 0 0 - 1 1 0 0 0 0 20 00",
-        "02",
+        "02 732",
     ),
     (
-        "open 1 1 1 1 1\nmarks 01\nhost 41 9",
+        "open 1 1 1 1 1 732\nmarks 01\nhost 41 9",
         "0 1 0 a5a5a5a5a5a5a5a5a5 1 1 0 0 0 0 41 00",
-        "01",
+        "01 732",
     ),
     (
-        "open 1 1 1 1 1\nhost fffd1e 9",
+        "open 1 1 1 1 1 732\nhost fffd1e 9",
         "0 3 3 fffc1ea5a5a5a5a5a5 1 1 0 0 0 0 20 00",
-        "00",
+        "00 732",
     ),
     (
-        "open 37 1 37 37 37\npad 1\npad 0\nopen 1 1 1 1 1",
+        "open 37 1 37 37 37 732\npad 1\npad 0\nopen 1 1 1 1 1 732",
         "0 0 0 - 1 1 0 0 0 0 20 00",
-        "00",
+        "00 732",
     ),
 ];
 
 #[test]
 fn each_call_is_answered() {
-    for (script, expected, marks) in CALLS {
-        check(script, &format!("{expected}{AT_START} {marks}"));
+    for (script, expected, end) in CALLS {
+        check(script, &format!("{expected}{AT_START} {end}"));
     }
 }
 
@@ -87,11 +135,11 @@ fn each_call_is_answered() {
 const OTHERS: &[(&str, &str)] = &[
     ("state", "data - 0 000000000000"),
     (
-        "open 1 1 1 1 1\nhost fffa18ff 9\nheld 255\nstate",
+        "open 1 1 1 1 1 732\nhost fffa18ff 9\nheld 255\nstate",
         "sub-iac 24 255 000000000000",
     ),
     (
-        "open 1 1 1 1 1\nhost fffa180102 9\nstate",
+        "open 1 1 1 1 1 732\nhost fffa180102 9\nstate",
         "sub 24 2 010200000000",
     ),
     ("chars -\nattrs -\nmarks -", "set"),
@@ -147,7 +195,7 @@ const PADS: &[(&str, &str)] = &[
 #[test]
 fn answers_tell_of_option_30() {
     for (script, expected) in PADS {
-        let answers = answers(format!("open 37 1 37 37 37\npad 1\n{script}").as_bytes());
+        let answers = answers(format!("open 37 1 37 37 37 732\npad 1\n{script}").as_bytes());
         let last = answers.lines().last().unwrap_or_default();
         assert!(last.starts_with("0 "), "{script}: {last}");
         let fields: Vec<&str> = last.split(' ').skip(12).take(3).collect();
@@ -174,18 +222,26 @@ const MAPS: &[(&str, &str)] = &[
 #[test]
 fn answers_tell_what_is_agreed() {
     for (input, expected) in MAPS {
-        let answers = answers(format!("open 1 1 1 1 1\ndet 1\nhost {input} 999").as_bytes());
-        let last = answers.lines().last().unwrap_or_default();
-        assert!(last.starts_with("0 "), "{input}: {last}");
-        assert_eq!(last.split(' ').nth(15), Some(*expected), "{input}");
-        assert_eq!(last.split(' ').count(), 17, "{input}");
+        assert_eq!(agreed(732, input), *expected, "{input}");
     }
+    assert_eq!(agreed(731, "fffa1404fffffffffff0"), "0000009079");
+    assert_eq!(agreed(731, "fffa14046f7ffff0"), "0000000079");
+}
+
+fn agreed(edition: usize, input: &str) -> String {
+    let script = format!("open 1 1 1 1 1 {edition}\ndet 1\nhost {input} 999");
+    let answers = answers(script.as_bytes());
+    let last = answers.lines().last().unwrap_or_default();
+    assert!(last.starts_with("0 "), "{input}: {last}");
+    let fields: Vec<&str> = last.split(' ').collect();
+    assert_eq!(fields.len(), 18, "{input}");
+    fields[15].into()
 }
 
 #[test]
 fn option_30_wants_37_cells() {
     for (cells, number) in [(36, '4'), (37, '0')] {
-        let script = format!("open {cells} 1 {cells} {cells} {cells}\npad 1\nkey 65 999");
+        let script = format!("open {cells} 1 {cells} {cells} {cells} 732\npad 1\nkey 65 999");
         let answers = answers(script.as_bytes());
         let last = answers.lines().last().unwrap_or_default();
         assert!(last.starts_with(number), "{cells}: {last}");
@@ -228,12 +284,14 @@ const BAD: &[&str] = &[
     "marks",
     "marks 1",
     "marks 01 01",
-    "open 1 1 1 1",
-    "open 1 1 1 1 1 1",
-    "open 65536 1 1 1 1",
-    "open 1 1 8449 1 1",
-    "open 1 1 1 1 8449",
-    "open 1 1 1 1 99999999999999999999",
+    "open 1 1 1 1 1",
+    "open 1 1 1 1 1 732 1",
+    "open 65536 1 1 1 1 732",
+    "open 1 1 8449 1 1 732",
+    "open 1 1 1 1 8449 732",
+    "open 1 1 1 1 1 65536",
+    "open 1 1 1 1 1 june",
+    "open 1 1 1 1 1 99999999999999999999",
 ];
 
 #[test]

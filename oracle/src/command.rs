@@ -1,14 +1,18 @@
-//! Subcommands: their codes, the check order, and which does what.
+//! Subcommands: their meanings, the check order, and which does what.
 
 use crate::cursor::on_screen;
 use crate::desk::Desk;
+use crate::edition::Edition;
 use crate::facilities::{class, governing, own};
 use crate::format;
 use crate::size::{X, Y};
 use crate::variant::Variant;
 use crate::watch::Event;
 
+/// Each meaning, called by its September code.
 pub mod code {
+    /// Stands for whatever an edition does not list: 0 is in neither list.
+    pub const NONE: u8 = 0;
     pub const EDIT_FACILITIES: u8 = 1;
     pub const ERASE_FACILITIES: u8 = 2;
     pub const TRANSMIT_FACILITIES: u8 = 3;
@@ -62,9 +66,9 @@ pub mod error {
     pub const BAD_MAP: u8 = 12;
 }
 
-/// How many parameters a code takes; none for an unknown code.
-pub fn parameter_count(code: u8) -> Option<usize> {
-    match code {
+/// How many parameters a command takes; none for what is not obeyed.
+pub fn parameter_count(meaning: u8) -> Option<usize> {
+    match meaning {
         code::EDIT_FACILITIES..=code::TRANSMIT_FACILITIES | code::SUPPRESS_PROTECTION => Some(1),
         code::SKIP_TO_LINE | code::SKIP_TO_CHAR => Some(1),
         code::FORMAT_FACILITIES | code::MOVE_CURSOR | code::REPEAT | code::ERROR => Some(2),
@@ -85,80 +89,96 @@ impl Desk<'_> {
                 _ => self.error(0, error::TOO_FEW, &[]),
             };
         };
-        match self.check(code, parameters) {
-            Ok(()) => self.act(code, parameters),
+        let meaning = self.edition.read(code, self.variant);
+        match self.check(code, meaning, parameters) {
+            Ok(()) => self.act(meaning, parameters),
             Err(error::OFF_SCREEN) => self.limit(code, parameters),
             Err(number) => {
                 self.error(code, number, parameters);
-                self.act_all_the_same(code, number, parameters);
+                self.act_all_the_same(meaning, number, parameters);
             }
         }
     }
 
-    fn act(&mut self, code: u8, parameters: &[u8]) {
-        self.saw(Event::Executed(code, parameters));
-        self.execute(code, parameters);
+    fn act(&mut self, meaning: u8, parameters: &[u8]) {
+        self.saw(Event::Executed(meaning, parameters));
+        self.execute(meaning, parameters);
     }
 
     /// The number of the ERROR to draw: code, then facility, then count,
-    /// then values.
-    fn check(&self, code: u8, parameters: &[u8]) -> Result<(), u8> {
+    /// then values. Only wrong variants go by the code again.
+    fn check(&self, code: u8, meaning: u8, parameters: &[u8]) -> Result<(), u8> {
         if self.varies(Variant::CountBeforeCode) && parameters.len() > 4 {
             return Err(error::TOO_MANY);
         }
-        let known = self.check_code(code)?;
+        let known = self.check_code(code, meaning)?;
+        let governed = self.by(Variant::JuneBitsByCode, code, meaning);
         let late = [Variant::Error1AfterCount, Variant::Error1AfterValues];
         if !late.contains(&self.variant) {
-            self.check_agreed(code, parameters)?;
+            self.check_agreed(governed, parameters)?;
         }
         if self.varies(Variant::ValuesBeforeCount) && parameters.len() > known {
-            self.check_values(code, &parameters[..known])?;
+            self.check_values(meaning, &parameters[..known])?;
         }
         self.check_count(known, parameters.len())?;
         if self.varies(Variant::Error1AfterCount) {
-            self.check_agreed(code, parameters)?;
+            self.check_agreed(governed, parameters)?;
         }
-        self.check_values(code, parameters)?;
+        let valued = self.by(Variant::JuneValuesByCode, code, meaning);
+        self.check_values(valued, parameters)?;
         if self.varies(Variant::Error1AfterValues) {
-            self.check_agreed(code, parameters)?;
+            self.check_agreed(governed, parameters)?;
         }
         Ok(())
     }
 
-    /// How many parameters the code takes, if it is known.
-    fn check_code(&self, code: u8) -> Result<usize, u8> {
-        if self.forgotten(code) {
+    /// The meaning, but for a variant that takes the code for one.
+    fn by(&self, variant: Variant, code: u8, meaning: u8) -> u8 {
+        match self.varies(variant) {
+            true => code,
+            false => meaning,
+        }
+    }
+
+    /// How many parameters the command takes, if it is known.
+    fn check_code(&self, code: u8, meaning: u8) -> Result<usize, u8> {
+        if self.forgotten(meaning) {
             return Err(error::UNKNOWN_CODE);
         }
         let early = self.varies(Variant::Error1BeforeCode) && self.agreed.nothing();
-        parameter_count(code).ok_or(match early {
+        let known = parameter_count(meaning).ok_or(match early {
             true => error::NOT_AGREED,
             false => error::UNKNOWN_CODE,
+        })?;
+        let counted = self.by(Variant::JuneCountsByCode, code, meaning);
+        Ok(match (self.variant, self.edition, meaning) {
+            (Variant::JuneFormatThree, Edition::June, code::FORMAT_DATA) => 3,
+            _ => parameter_count(counted).unwrap_or(known),
         })
     }
 
-    /// A known code that a wrong variant does not know.
-    fn forgotten(&self, code: u8) -> bool {
+    /// A known command that a wrong variant does not know.
+    fn forgotten(&self, meaning: u8) -> bool {
         match self.variant {
-            Variant::Error41Unknown => code == code::ERROR,
-            Variant::SkipsUnknown => matches!(code, code::SKIP_TO_LINE | code::SKIP_TO_CHAR),
-            Variant::ModifiedUnknown => code == code::TRANSMIT_MODIFIED,
-            Variant::LinesUnknown => matches!(code, code::LINE_INSERT | code::LINE_DELETE),
+            Variant::Error41Unknown => meaning == code::ERROR,
+            Variant::SkipsUnknown => matches!(meaning, code::SKIP_TO_LINE | code::SKIP_TO_CHAR),
+            Variant::ModifiedUnknown => meaning == code::TRANSMIT_MODIFIED,
+            Variant::LinesUnknown => matches!(meaning, code::LINE_INSERT | code::LINE_DELETE),
             _ => false,
         }
     }
 
     /// Whether the facility that the command needs is agreed.
-    fn check_agreed(&self, code: u8, parameters: &[u8]) -> Result<(), u8> {
-        let Some(bit) = governing(code, self.variant) else {
-            return self.check_attributes(code, parameters);
+    fn check_agreed(&self, meaning: u8, parameters: &[u8]) -> Result<(), u8> {
+        let Some(bit) = governing(meaning, self.variant) else {
+            return self.check_attributes(meaning, parameters);
         };
-        match self.agreed.has(bit) || self.excused(code, parameters, bit) {
+        match self.agreed.has(bit) || self.excused(meaning, parameters, bit) {
             false => Err(match self.variant {
                 Variant::Error1Is2 => error::UNKNOWN_CODE,
                 _ => error::NOT_AGREED,
             }),
-            true => self.check_preface(code),
+            true => self.check_preface(meaning),
         }
     }
 
@@ -175,8 +195,8 @@ impl Desk<'_> {
     }
 
     /// Of the right number of parameters.
-    fn check_values(&self, code: u8, parameters: &[u8]) -> Result<(), u8> {
-        match (code, parameters) {
+    fn check_values(&self, meaning: u8, parameters: &[u8]) -> Result<(), u8> {
+        match (meaning, parameters) {
             (code::MOVE_CURSOR, &[x, y]) if !on_screen(&self.screen, X(x), Y(y)) => {
                 Err(error::OFF_SCREEN)
             }
@@ -217,6 +237,7 @@ impl Desk<'_> {
         }
     }
 
+    /// Names the command as it was received.
     fn error(&mut self, code: u8, number: u8, parameters: &[u8]) {
         self.saw(Event::Error(code, number, parameters));
         match (number, self.variant) {
@@ -224,12 +245,28 @@ impl Desk<'_> {
             (error::NOT_AGREED, Variant::Error1InSilence) => return,
             _ => {}
         }
-        self.reply.subcommand(&[code::ERROR, code, number]);
+        let (code, number) = self.june_error(code, number);
+        self.reply.subcommand(code::ERROR, &[code, number]);
     }
 
-    pub fn execute(&mut self, code: u8, parameters: &[u8]) {
-        match (code, parameters) {
-            (code::EDIT_FACILITIES..=code::FORMAT_FACILITIES, maps) => self.facilities(code, maps),
+    /// An ERROR of June's as wrong variants have it.
+    fn june_error(&self, code: u8, number: u8) -> (u8, u8) {
+        match (self.variant, self.edition) {
+            (Variant::JuneErrorNamesMeaning, Edition::June) if number != error::UNKNOWN_CODE => {
+                (self.edition.meaning(code), number)
+            }
+            (Variant::JuneErrorNumbers, Edition::June) if number >= error::TOO_MANY => {
+                (code, number - 1)
+            }
+            _ => (code, number),
+        }
+    }
+
+    pub fn execute(&mut self, meaning: u8, parameters: &[u8]) {
+        match (meaning, parameters) {
+            (code::EDIT_FACILITIES..=code::FORMAT_FACILITIES, maps) => {
+                self.facilities(meaning, maps)
+            }
             (code::MOVE_CURSOR, &[x, y]) => self.screen.move_to(X(x), Y(y)),
             (code::SKIP_TO_LINE, &[y]) => self.screen.skip_to_line(Y(y)),
             (code::SKIP_TO_CHAR, &[x]) => self.screen.skip_to_char(X(x)),
@@ -244,8 +281,8 @@ impl Desk<'_> {
             (code::CHAR_DELETE, _) => self.screen.delete(Variant::DeleteUnmarked),
             (code::READ_CURSOR, _) => self.read_cursor(),
             (code::REVERSE_TAB, _) => self.screen.reverse_tab(),
-            (code::TRANSMIT_SCREEN..=code::TRANSMIT_MODIFIED, _) => self.transmit(code),
-            (code::ERASE_SCREEN..=code::ERASE_UNPROTECTED, _) => self.screen.erase(code),
+            (code::TRANSMIT_SCREEN..=code::TRANSMIT_MODIFIED, _) => self.transmit(meaning),
+            (code::ERASE_SCREEN..=code::ERASE_UNPROTECTED, _) => self.screen.erase(meaning),
             (code::FORMAT_DATA, &[map, _, high, low]) => self.screen.format(map, [high, low]),
             (code::REPEAT, &[count, byte]) => self.screen.repeat(count, byte),
             (code::SUPPRESS_PROTECTION, &[verb]) => self.suppress(verb),
@@ -254,20 +291,33 @@ impl Desk<'_> {
         }
     }
 
-    /// 1 to 4: the host's maps are met with the terminal's own.
-    fn facilities(&mut self, code: u8, maps: &[u8]) {
-        self.agreed.receive(code, maps, self.variant);
-        let mut answer = vec![code];
-        answer.extend(class(code).map(|place| own(place, self.variant)));
-        if self.varies(Variant::EraseMapShifted) && code == code::ERASE_FACILITIES {
-            answer[1] <<= 1;
+    /// A facility command's maps are met with the terminal's own.
+    pub fn note(&mut self, meaning: u8, maps: &[u8]) {
+        let edition = match self.variant {
+            Variant::JuneAgrees208 => Edition::September,
+            _ => self.edition,
+        };
+        self.agreed.receive(meaning, maps, edition, self.variant);
+    }
+
+    /// 1 to 4: noted, and answered with the terminal's own maps.
+    fn facilities(&mut self, meaning: u8, maps: &[u8]) {
+        self.note(meaning, maps);
+        let told = match self.variant {
+            Variant::JuneTells208 => Edition::September,
+            _ => self.edition,
+        };
+        let own = |place| own(place, told, self.variant);
+        let mut answer: Vec<u8> = class(meaning).map(own).collect();
+        if self.varies(Variant::EraseMapShifted) && meaning == code::ERASE_FACILITIES {
+            answer[0] <<= 1;
         }
-        self.reply.subcommand(&answer);
+        self.reply.subcommand(meaning, &answer);
     }
 
     fn read_cursor(&mut self) {
         let cursor = self.screen.cursor;
         self.reply
-            .subcommand(&[code::CURSOR_POSITION, cursor.x.0, cursor.y.0]);
+            .subcommand(code::CURSOR_POSITION, &[cursor.x.0, cursor.y.0]);
     }
 }

@@ -1,5 +1,6 @@
 //! One call at work: bytes heard, options negotiated, data written.
 
+use crate::edition::Edition;
 use crate::facilities::Agreed;
 use crate::pad::{Pad, PAD};
 use crate::reply::{Reply, DET};
@@ -13,6 +14,7 @@ use crate::watch::{Event, Sight, Watch};
 pub struct Desk<'a> {
     pub screen: Screen<'a>,
     pub reply: Reply<'a>,
+    pub edition: Edition,
     pub det: bool,
     pub agreed: Agreed,
     pub pad: Pad,
@@ -43,7 +45,8 @@ impl<'a> Desk<'a> {
         }
         Desk {
             screen,
-            reply: Reply::new(lent.reply, variant),
+            reply: Reply::new(lent.reply, session.edition, variant),
+            edition: session.edition,
             det: session.det,
             agreed: session.agreed,
             pad,
@@ -58,6 +61,7 @@ impl<'a> Desk<'a> {
         let session = Session {
             size: self.screen.size,
             cursor: self.screen.cursor,
+            edition: self.edition,
             det: self.det,
             suppressed: self.screen.suppressed,
             agreed: self.agreed,
@@ -74,6 +78,7 @@ impl<'a> Desk<'a> {
     pub fn saw(&mut self, event: Event) {
         let sight = Sight {
             screen: &self.screen,
+            edition: self.edition,
             det: self.det,
             agreed: self.agreed,
             pad: &self.pad,
@@ -144,6 +149,9 @@ impl<'a> Desk<'a> {
         }
         if self.det && !self.varies(Variant::DontKeepsSuppression) {
             self.screen.suppressed = false;
+        }
+        if self.det && self.varies(Variant::DontEndsJune) {
+            self.edition = Edition::September;
         }
         if self.det && self.varies(Variant::DontClearsMarks) {
             self.screen.clear_marks();

@@ -71,6 +71,8 @@ impl Screen<'_> {
     pub fn format(&mut self, map: u8, count: [u8; 2]) {
         let count = format_count(count, self.variant);
         let at = self.at();
+        // Too many cells draw an ERROR; only a wrong variant gets here.
+        let count = count.min(self.cells() - at);
         self.attrs[at..at + count].fill(map);
         match self.variant {
             Variant::FormatClearsMarks => self.set_marks(at..at + count, 0),
@@ -118,6 +120,6 @@ impl Desk<'_> {
 
     fn answer_suppress(&mut self, verb: Verb) {
         self.reply
-            .subcommand(&[code::SUPPRESS_PROTECTION, verb.byte()]);
+            .subcommand(code::SUPPRESS_PROTECTION, &[verb.byte()]);
     }
 }

@@ -3,6 +3,7 @@
 use crate::class;
 use crate::command::code;
 use crate::desk::Desk;
+use crate::edition::Edition;
 use crate::screen::protection;
 use crate::variant::Variant;
 use crate::watch::Event;
@@ -68,6 +69,9 @@ impl Desk<'_> {
     /// A key that nothing refuses.
     pub fn press(&mut self, key: u8, meaning: Key) {
         self.saw(Event::Key(key));
+        if self.varies(Variant::JuneKeysSeptember) {
+            self.reply.edition = Edition::September;
+        }
         if self.key_governed(meaning) {
             return;
         }
@@ -77,7 +81,7 @@ impl Desk<'_> {
             Key::Tab => self.screen.tab(),
             Key::Send => self.send_key(),
             Key::Delete => self.screen.delete(Variant::KeyDeleteUnmarked),
-            Key::Function(number) => self.reply.subcommand(&[code::FN, number]),
+            Key::Function(number) => self.reply.subcommand(code::FN, &[number]),
             Key::Line(byte) => self.type_into_line(byte),
         }
     }

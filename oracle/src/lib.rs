@@ -16,6 +16,7 @@ pub mod screen;
 
 pub mod command;
 pub mod desk;
+pub mod edition;
 pub mod erase;
 pub mod facilities;
 pub mod format;

@@ -36,12 +36,12 @@ impl Desk<'_> {
 
     fn send_modified(&mut self, place: usize, field: Range<usize>) {
         if place > 0 && self.varies(Variant::ModifiedSeparated) {
-            self.reply.subcommand(&[code::FIELD_SEPARATOR]);
+            self.reply.subcommand(code::FIELD_SEPARATOR, &[]);
         }
         let marked = |&cell: &usize| self.screen.marks[cell] != 0;
         match self.variant {
             Variant::ModifiedOnePreface if place > 0 => {
-                self.reply.subcommand(&[code::FIELD_SEPARATOR]);
+                self.reply.subcommand(code::FIELD_SEPARATOR, &[]);
                 self.reply.data(&self.screen.chars[field]);
             }
             Variant::ModifiedFromMark => {

@@ -15,6 +15,7 @@ pub enum Refusal {
     NoMeaning = 9,
     LineFull = 10,
     Mark = 11,
+    Edition = 12,
 }
 
 impl Refusal {
@@ -23,8 +24,11 @@ impl Refusal {
     }
 }
 
-const ORDER: [Refusal; 11] = [
+const COUNT: usize = 12;
+
+const ORDER: [Refusal; COUNT] = [
     Refusal::Size,
+    Refusal::Edition,
     Refusal::Buffers,
     Refusal::Character,
     Refusal::Session,
@@ -43,21 +47,39 @@ pub fn first(variant: Variant, given: impl Fn(Refusal) -> bool) -> Option<Refusa
     order(variant).into_iter().find(|&refusal| given(refusal))
 }
 
-fn order(variant: Variant) -> [Refusal; 11] {
+fn order(variant: Variant) -> [Refusal; COUNT] {
     let mut order = ORDER;
     match variant {
-        Variant::Refuse2Before1 => order.swap(0, 1),
-        Variant::Refuse3Before2 => order.swap(1, 2),
-        Variant::Refuse4Before3 => order.swap(2, 3),
-        Variant::Refuse5Before4 => order[3..6].rotate_right(1),
-        Variant::Refuse11Before4 => order.swap(3, 4),
-        Variant::Refuse11Before2 => order[1..5].rotate_right(1),
-        Variant::Refuse11After5 => order.swap(4, 5),
-        Variant::Refuse11Last => order[4..].rotate_left(1),
-        Variant::Refuse9Before5 => order.swap(5, 6),
-        Variant::Refuse5Last => order[5..].rotate_left(1),
-        Variant::Refuse10Before5 => order[5..].rotate_right(1),
+        Variant::Refuse2Before1 => before(&mut order, Refusal::Buffers, Refusal::Size),
+        Variant::Refuse3Before2 => before(&mut order, Refusal::Character, Refusal::Buffers),
+        Variant::Refuse4Before3 => before(&mut order, Refusal::Session, Refusal::Character),
+        Variant::Refuse5Before4 => before(&mut order, Refusal::Room, Refusal::Session),
+        Variant::Refuse11Before4 => before(&mut order, Refusal::Mark, Refusal::Session),
+        Variant::Refuse11Before2 => before(&mut order, Refusal::Mark, Refusal::Buffers),
+        Variant::Refuse11After5 => before(&mut order, Refusal::Room, Refusal::Mark),
+        Variant::Refuse11Last => last(&mut order, Refusal::Mark),
+        Variant::Refuse9Before5 => before(&mut order, Refusal::NoMeaning, Refusal::Room),
+        Variant::Refuse5Last => last(&mut order, Refusal::Room),
+        Variant::Refuse10Before5 => before(&mut order, Refusal::LineFull, Refusal::Room),
+        Variant::Refuse12Before1 => before(&mut order, Refusal::Edition, Refusal::Size),
+        Variant::Refuse12After2 => before(&mut order, Refusal::Buffers, Refusal::Edition),
         _ => {}
     }
     order
+}
+
+fn place(order: &[Refusal], refusal: Refusal) -> usize {
+    let found = order.iter().position(|&one| one == refusal);
+    found.unwrap_or(0)
+}
+
+/// Puts the later one just before the other.
+fn before(order: &mut [Refusal], later: Refusal, other: Refusal) {
+    let range = place(order, other)..=place(order, later);
+    order[range].rotate_right(1);
+}
+
+fn last(order: &mut [Refusal], refusal: Refusal) {
+    let from = place(order, refusal);
+    order[from..].rotate_left(1);
 }

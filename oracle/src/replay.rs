@@ -3,7 +3,7 @@
 use std::fmt::Write as _;
 use std::io::{self, BufRead, Write};
 
-use crate::script::{push_hex, Line};
+use crate::script::{push_hex, Line, Opening};
 use crate::size::{X, Y};
 use crate::telnet::{Phase, Verb};
 use crate::terminal::{Buffers, Lent, Outcome, Terminal};
@@ -38,13 +38,7 @@ impl Replay {
     pub fn run(&mut self, line: &Line, watch: &mut dyn Watch) -> Option<Outcome> {
         let session = &mut self.terminal.session;
         match line {
-            Line::Open {
-                m,
-                n,
-                chars,
-                attrs,
-                marks,
-            } => return Some(self.open(*m, *n, [*chars, *attrs, *marks])),
+            Line::Open(open) => return Some(self.open(open)),
             Line::Host(input, room) => {
                 let (terminal, lent) = self.lend(*room);
                 return Some(terminal.host(lent, input, watch));
@@ -66,12 +60,12 @@ impl Replay {
         None
     }
 
-    fn open(&mut self, m: u16, n: u16, [chars, attrs, marks]: [usize; 3]) -> Outcome {
-        self.chars = vec![LENT_CHAR; chars];
-        self.attrs = vec![LENT_ATTR; attrs];
-        self.marks = vec![LENT_MARK; marks];
+    fn open(&mut self, open: &Opening) -> Outcome {
+        self.chars = vec![LENT_CHAR; open.chars];
+        self.attrs = vec![LENT_ATTR; open.attrs];
+        self.marks = vec![LENT_MARK; open.marks];
         let (terminal, lent) = self.lend(0);
-        terminal.open(m, n, lent.buffers)
+        terminal.open(open.m, open.n, open.edition, lent.buffers)
     }
 
     fn lend(&mut self, room: usize) -> (&mut Terminal, Lent<'_>) {
@@ -124,6 +118,7 @@ impl Replay {
         push_hex(text, &session.agreed.0);
         text.push(' ');
         push_hex(text, &self.marks);
+        push(text, format_args!(" {}", session.edition.number()));
     }
 
     fn push_state(&self, text: &mut String) {

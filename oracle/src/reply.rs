@@ -1,5 +1,6 @@
 //! The reply bytes of one call.
 
+use crate::edition::Edition;
 use crate::telnet::{Verb, IAC, SB, SE};
 use crate::variant::Variant;
 
@@ -9,14 +10,17 @@ pub const DET: u8 = 20;
 pub struct Reply<'a> {
     buffer: &'a mut [u8],
     written: usize,
+    /// Whose codes the subcommands have.
+    pub edition: Edition,
     variant: Variant,
 }
 
 impl<'a> Reply<'a> {
-    pub fn new(buffer: &'a mut [u8], variant: Variant) -> Reply<'a> {
+    pub fn new(buffer: &'a mut [u8], edition: Edition, variant: Variant) -> Reply<'a> {
         Reply {
             buffer,
             written: 0,
+            edition,
             variant,
         }
     }
@@ -45,8 +49,10 @@ impl<'a> Reply<'a> {
         }
     }
 
-    pub fn subcommand(&mut self, bytes: &[u8]) {
-        self.message(DET, bytes, Variant::Error255Single);
+    pub fn subcommand(&mut self, meaning: u8, parameters: &[u8]) {
+        let code = self.edition.write(meaning, self.variant);
+        let bytes = [&[code], parameters].concat();
+        self.message(DET, &bytes, Variant::Error255Single);
     }
 
     /// IAC SB, the option, the bytes with 255 doubled, IAC SE.

@@ -7,15 +7,28 @@ const MOST_CELLS: usize = 8_448;
 const MOST_INPUT: usize = 65_536;
 const MOST_REPLY: usize = 80_000;
 
+/// The numbers of an `open` line: the size asked for, the lengths of what
+/// is lent, and the edition.
+#[derive(Clone, Copy, Debug, PartialEq, Eq)]
+pub struct Opening {
+    pub m: u16,
+    pub n: u16,
+    pub chars: usize,
+    pub attrs: usize,
+    pub marks: usize,
+    pub edition: u16,
+}
+
+impl Opening {
+    /// The cells of the size asked for.
+    pub fn cells(&self) -> usize {
+        usize::from(self.m) * usize::from(self.n)
+    }
+}
+
 #[derive(Clone, Debug, PartialEq, Eq)]
 pub enum Line {
-    Open {
-        m: u16,
-        n: u16,
-        chars: usize,
-        attrs: usize,
-        marks: usize,
-    },
+    Open(Opening),
     Chars(Vec<u8>),
     Attrs(Vec<u8>),
     Marks(Vec<u8>),
@@ -36,13 +49,14 @@ impl Line {
         let word = fields.next()?;
         let mut field = || fields.next();
         let line = match word {
-            b"open" => Line::Open {
-                m: number(field()?, 65_535)? as u16,
-                n: number(field()?, 65_535)? as u16,
+            b"open" => Line::Open(Opening {
+                m: word_number(field()?)?,
+                n: word_number(field()?)?,
                 chars: number(field()?, MOST_CELLS)?,
                 attrs: number(field()?, MOST_CELLS)?,
                 marks: number(field()?, MOST_CELLS)?,
-            },
+                edition: word_number(field()?)?,
+            }),
             b"chars" => Line::Chars(bytes(field()?, MOST_CELLS)?),
             b"attrs" => Line::Attrs(bytes(field()?, MOST_CELLS)?),
             b"marks" => Line::Marks(bytes(field()?, MOST_CELLS)?),
@@ -61,7 +75,7 @@ impl Line {
 
     /// Whether the line is one of the three operations.
     pub fn is_call(&self) -> bool {
-        matches!(self, Line::Open { .. } | Line::Host(..) | Line::Key(..))
+        matches!(self, Line::Open(_) | Line::Host(..) | Line::Key(..))
     }
 }
 
@@ -75,6 +89,10 @@ fn number(digits: &[u8], most: usize) -> Option<usize> {
         let number = number * 10 + value;
         (number <= most).then_some(number)
     })
+}
+
+fn word_number(digits: &[u8]) -> Option<u16> {
+    number(digits, 65_535).map(|number| number as u16)
 }
 
 fn small(digits: &[u8]) -> Option<u8> {
@@ -130,16 +148,23 @@ impl fmt::Display for Hex<'_> {
     }
 }
 
+impl fmt::Display for Opening {
+    fn fmt(&self, f: &mut fmt::Formatter) -> fmt::Result {
+        let Opening { m, n, edition, .. } = self;
+        let Opening {
+            chars,
+            attrs,
+            marks,
+            ..
+        } = self;
+        write!(f, "{m} {n} {chars} {attrs} {marks} {edition}")
+    }
+}
+
 impl fmt::Display for Line {
     fn fmt(&self, f: &mut fmt::Formatter) -> fmt::Result {
         match self {
-            Line::Open {
-                m,
-                n,
-                chars,
-                attrs,
-                marks,
-            } => write!(f, "open {m} {n} {chars} {attrs} {marks}"),
+            Line::Open(open) => write!(f, "open {open}"),
             Line::Chars(bytes) => write!(f, "chars {}", Hex(bytes)),
             Line::Attrs(bytes) => write!(f, "attrs {}", Hex(bytes)),
             Line::Marks(bytes) => write!(f, "marks {}", Hex(bytes)),

@@ -1,5 +1,6 @@
 //! What a terminal keeps from one call to the next.
 
+use crate::edition::Edition;
 use crate::facilities::Agreed;
 use crate::pad::{self, Pad};
 use crate::size::{Position, Size};
@@ -7,11 +8,13 @@ use crate::telnet::Reader;
 use crate::variant::Variant;
 
 /// The default is the session that a refused open returns: size 0 by 0,
-/// options off, protection in effect, nothing half read, nothing agreed.
+/// September's edition, options off, protection in effect, nothing half
+/// read, nothing agreed.
 #[derive(Clone, Debug, Default, PartialEq, Eq)]
 pub struct Session {
     pub size: Size,
     pub cursor: Position,
+    pub edition: Edition,
     pub det: bool,
     pub suppressed: bool,
     pub agreed: Agreed,

@@ -24,7 +24,7 @@ impl Desk<'_> {
     pub fn preface(&mut self, cell: usize) {
         let position = self.screen.size.position(cell);
         self.reply
-            .subcommand(&[code::DATA_TRANSMIT, position.x.0, position.y.0]);
+            .subcommand(code::DATA_TRANSMIT, &[position.x.0, position.y.0]);
     }
 
     /// The cells' characters, prefaced by the first.
@@ -75,7 +75,7 @@ impl Desk<'_> {
                 continue;
             }
             if separate {
-                self.reply.subcommand(&[code::FIELD_SEPARATOR]);
+                self.reply.subcommand(code::FIELD_SEPARATOR, &[]);
             }
             if unprotected || all {
                 self.reply.data(&self.screen.chars[field]);

@@ -1,6 +1,8 @@
 //! Deliberately wrong terminals, each with one rule changed. The code that
 //! decides a rule asks for its variant there and nowhere else.
 
+use crate::edition::Edition;
+
 macro_rules! variants {
     ($($case:ident $name:literal $what:literal;)*) => {
         /// Which rule is changed; `None` is the right program.
@@ -404,6 +406,48 @@ variants! {
     Pad29Cells "pad-29-cells" "option 30 is accepted from 29 cells up, whose 9C bytes hold a line";
     ModifiedFree "modified-free" "27 needs no facility";
 
+    // The two editions.
+    AnyEdition "any-edition" "an edition that is neither is taken for September's";
+    EarlierIsJune "earlier-is-june" "an edition below 731 is taken for June's";
+    LaterIsSeptember "later-is-september" "an edition above 732 is taken for September's";
+    Refuse12Before1 "refuse-12-before-1" "refusal 12 is looked for before 1";
+    Refuse12After2 "refuse-12-after-2" "refusal 12 is looked for after 2";
+    RefusedOpenSaysNamed "refused-open-says-named" "a refused open leaves the edition that it named";
+    RefusedOpenSays731 "refused-open-says-731" "a refused open leaves June's edition";
+    OpenKeepsEdition "open-keeps-edition" "open leaves the edition from before";
+    DontEndsJune "dont-ends-june" "DONT 20 goes back to September's codes";
+    EditionIgnored "edition-ignored" "June's codes and map are September's";
+    JuneReadsSeptember "june-reads-september" "commands are read by September's codes in June";
+    JuneReadsHigher "june-reads-higher" "June's later codes are one higher";
+    JuneWritesSeptember "june-writes-september" "answers have September's codes in June";
+    JuneKeysSeptember "june-keys-september" "keys answer with September's codes in June";
+    JuneModified "june-modified" "27 is TRANSMIT MODIFIED in June too";
+    June41Known "june-41-known" "41 is ERROR in June too";
+    June40Unknown "june-40-unknown" "June's ERROR from the host draws ERROR 2";
+    JuneError41 "june-error-41" "June's ERROR is sent as 41";
+    JunePreface28 "june-preface-28" "June's DATA TRANSMIT is sent as 28";
+    JuneSeparator39 "june-separator-39" "June's FIELD SEPARATOR is sent as 39";
+    JuneFn40 "june-fn-40" "June's FN is sent as 40";
+    JuneSuppress38 "june-suppress-38" "June's SUPPRESS PROTECTION is sent as 38";
+    JuneErrorNamesMeaning "june-error-names-meaning" "June's ERROR names a command by its September code";
+    JuneErrorNumbers "june-error-numbers" "June's ERROR has document 000's numbers";
+    JuneFormatThree "june-format-three" "June's FORMAT DATA takes one map byte";
+    JuneCountsByCode "june-counts-by-code" "June's parameters are counted by September's list";
+    JuneBitsByCode "june-bits-by-code" "June's commands need the bits of September's codes";
+    JuneValuesByCode "june-values-by-code" "June's values are checked by September's codes";
+    JuneMap208 "june-map-208" "June's first format map is 208";
+    JuneMap16 "june-map-16" "June's first format map is 16";
+    JuneTells208 "june-tells-208" "June's first format map is told as 208";
+    JuneAgrees208 "june-agrees-208" "June's format maps are met with 208";
+    JuneTypingUnmarked "june-typing-unmarked" "typing marks nothing in June";
+    JuneEraseKeepsMarks "june-erase-keeps-marks" "ERASE SCREEN leaves the marks in June";
+    JuneMarksAbove1 "june-marks-above-1" "a mark above 1 is not refused in June";
+    JuneAnyMarks "june-any-marks" "calls take a mark buffer of any length in June";
+    JuneRoomOld "june-room-old" "room for 7C + 2 bytes is enough to call in June";
+    JuneTakeRoomOld "june-take-room-old" "bytes are taken with 7C + 2 bytes free in June";
+    JuneLetterSpace "june-letter-space" "an alphabetic cell refuses the space in June";
+    JuneFormatByAttributes "june-format-by-attributes" "FORMAT DATA needs the bit of its protection in June";
+
     // Facilities: another bit, or one where none belongs.
     Bit6Incremental "bit-6-incremental" "6 and 7 need the bit of 8";
     Bit6Positive "bit-6-positive" "6 needs bit 0 of the edit map";
@@ -463,6 +507,27 @@ variants! {
     EraseScreenGoverned "erase-screen-governed" "29 needs the bit of 32";
     FormatGoverned "format-governed" "36 needs the bit of 21";
     ErrorGoverned "error-governed" "41 needs the bit of FN";
+}
+
+impl Variant {
+    /// What a slip of June's alone comes to in an edition.
+    pub fn in_edition(self, edition: Edition) -> Variant {
+        let june = match self {
+            Variant::JuneTypingUnmarked => Variant::TypingUnmarked,
+            Variant::JuneEraseKeepsMarks => Variant::EraseScreenKeepsMarks,
+            Variant::JuneMarksAbove1 => Variant::MarksAbove1,
+            Variant::JuneAnyMarks => Variant::AnyMarks,
+            Variant::JuneRoomOld => Variant::RefuseRoomOld,
+            Variant::JuneTakeRoomOld => Variant::TakeRoomOld,
+            Variant::JuneLetterSpace => Variant::ClassLetterSpace,
+            Variant::JuneFormatByAttributes => Variant::FormatByAttributes,
+            _ => return self,
+        };
+        match edition {
+            Edition::June => june,
+            Edition::September => Variant::None,
+        }
+    }
 }
 
 /// The variant of that name.

@@ -1,6 +1,7 @@
 //! What an onlooker is told while a call runs. The terminal itself never
 //! depends on it.
 
+use crate::edition::Edition;
 use crate::facilities::Agreed;
 use crate::pad::Pad;
 use crate::screen::Screen;
@@ -14,9 +15,10 @@ pub enum Event<'a> {
     /// An ended one.
     Subnegotiation(&'a Sub),
     ThrownAway(&'a Sub),
-    /// A command that draws no ERROR, with its parameters.
+    /// A command that draws no ERROR, by its meaning, with its parameters.
     Executed(u8, &'a [u8]),
-    /// A command, the number of the ERROR that it draws, its parameters.
+    /// A command by its code, the number of the ERROR that it draws, its
+    /// parameters.
     Error(u8, u8, &'a [u8]),
     /// MOVE CURSOR off the screen.
     Limited(X, Y),
@@ -27,6 +29,7 @@ pub enum Event<'a> {
 #[derive(Clone, Copy)]
 pub struct Sight<'a> {
     pub screen: &'a Screen<'a>,
+    pub edition: Edition,
     pub det: bool,
     pub agreed: Agreed,
     pub pad: &'a Pad,

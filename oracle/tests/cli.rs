@@ -27,20 +27,20 @@ const START: &str = " 0 - 000000000000000000000000000000000000000000000000001311
 
 #[test]
 fn answers_a_script() {
-    let output = oracle(&[], "open 1 1 1 1 1\nkey 65 9\nstat\nstate\n");
+    let output = oracle(&[], "open 1 1 1 1 1 732\nkey 65 9\nstat\nstate\n");
     let open = "0 0 0 - 1 1 0 0 0 0 20 00";
     let key = "0 1 0 a5a5a5a5a5a5a5a5a5 1 1 0 0 0 0 41 00";
-    let expected = format!("{open}{START} 00\n{key}{START} 01\nbad line 3\n");
+    let expected = format!("{open}{START} 00 732\n{key}{START} 01 732\nbad line 3\n");
     assert_eq!(stdout(&output), expected);
     assert_eq!(output.status.code(), Some(0));
 }
 
 #[test]
 fn runs_a_variant() {
-    let script = "open 1 1 1 1 1\nhost - 9\n";
+    let script = "open 1 1 1 1 1 732\nhost - 9\n";
     let right = stdout(&oracle(&[], script));
     let wrong = stdout(&oracle(&["--variant", "refuse-room-more"], script));
-    let rest = format!(" 0 0 a5a5a5a5a5a5a5a5a5 1 1 0 0 0 0 20 00{START} 00\n");
+    let rest = format!(" 0 0 a5a5a5a5a5a5a5a5a5 1 1 0 0 0 0 20 00{START} 00 732\n");
     assert!(right.ends_with(&format!("\n0{rest}")));
     assert!(wrong.ends_with(&format!("\n5{rest}")));
 }

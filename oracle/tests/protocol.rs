@@ -23,7 +23,7 @@ const START: &str = "0 - 0000000000000000000000000000000000000000000000000013110
 fn fields(script: &str, range: std::ops::Range<usize>) -> String {
     let answer = last(script);
     let fields: Vec<&str> = answer.split(' ').collect();
-    assert_eq!(fields.len(), 17, "{answer}");
+    assert_eq!(fields.len(), 18, "{answer}");
     fields[range].join(" ")
 }
 
@@ -40,14 +40,23 @@ fn marks(script: &str) -> String {
 
 #[test]
 fn open_done_and_refused() {
-    assert_eq!(last_base("open 2 1 2 2 2"), "0 0 0 - 2 1 0 0 0 0 2020 0000");
     assert_eq!(
-        last_base("open 2 1 2 3 2"),
+        last_base("open 2 1 2 2 2 732"),
+        "0 0 0 - 2 1 0 0 0 0 2020 0000"
+    );
+    assert_eq!(
+        last_base("open 2 1 2 3 2 732"),
         "2 0 0 - 0 0 0 0 0 0 2a2a 111111"
     );
-    assert_eq!(last_base("open 65535 0 0 1 1"), "1 0 0 - 0 0 0 0 0 0 - 11");
-    assert_eq!(last_base("open 2 1 2 2 3"), "2 0 0 - 0 0 0 0 0 0 2a2a 1111");
-    let gone = "open 2 1 2 2 2\ndet 1\ncursor 1 0\npad 1\nopen 1 1 1 1 1";
+    assert_eq!(
+        last_base("open 65535 0 0 1 1 732"),
+        "1 0 0 - 0 0 0 0 0 0 - 11"
+    );
+    assert_eq!(
+        last_base("open 2 1 2 2 3 732"),
+        "2 0 0 - 0 0 0 0 0 0 2a2a 1111"
+    );
+    let gone = "open 2 1 2 2 2 732\ndet 1\ncursor 1 0\npad 1\nopen 1 1 1 1 1 732";
     assert_eq!(last_base(gone), "0 0 0 - 1 1 0 0 0 0 20 00");
 }
 
@@ -63,7 +72,7 @@ fn before_any_open() {
 #[test]
 fn host_and_key() {
     let last = last_base;
-    let open = "open 1 1 1 1 1\n";
+    let open = "open 1 1 1 1 1 732\n";
     let host = last(&format!("{open}host 41fffd0342 9"));
     assert_eq!(host, "0 4 3 fffc03a5a5a5a5a5a5 1 1 0 0 0 0 41 00");
     let host = last(&format!("{open}host - 9"));
@@ -77,23 +86,27 @@ fn host_and_key() {
 #[test]
 fn set_lines() {
     let script =
-        "open 1 1 1 1 1\nchars 7e\nattrs 08\nsuppress 1\ndet 1\ncursor 0 0\nheld 0\nkey 97 9";
+        "open 1 1 1 1 1 732\nchars 7e\nattrs 08\nsuppress 1\ndet 1\ncursor 0 0\nheld 0\nkey 97 9";
     assert_eq!(answers(script)[1..7], ["set"; 6]);
     let typed = "0 1 0 a5a5a5a5a5a5a5a5a5 1 1 0 0 1 1 61 08";
     assert_eq!(last_base(script), typed);
     assert_eq!(last("chars -"), "set");
     assert_eq!(
-        last("open 1 1 1 1 1\nchars 1f\nkey 97 9").split(' ').next(),
+        last("open 1 1 1 1 1 732\nchars 1f\nkey 97 9")
+            .split(' ')
+            .next(),
         Some("3")
     );
     assert_eq!(
-        last("open 1 1 1 1 1\ncursor 1 0\nkey 97 9")
+        last("open 1 1 1 1 1 732\ncursor 1 0\nkey 97 9")
             .split(' ')
             .next(),
         Some("4")
     );
     assert_eq!(
-        last("open 1 1 1 1 1\nheld 7\nkey 97 9").split(' ').next(),
+        last("open 1 1 1 1 1 732\nheld 7\nkey 97 9")
+            .split(' ')
+            .next(),
         Some("4")
     );
 }
@@ -105,7 +118,7 @@ fn pad_fields(script: &str) -> String {
 
 #[test]
 fn option_30_shows() {
-    let open = "open 37 1 37 37 37\npad 1\n";
+    let open = "open 37 1 37 37 37 732\npad 1\n";
     let starts = START.split(' ').nth(2).expect("a field");
     assert_eq!(
         pad_fields(&format!("{open}key 65 333")),
@@ -130,7 +143,7 @@ fn option_30_shows() {
 
 #[test]
 fn a_message_ignores_count_and_held() {
-    let message = "open 37 1 37 37 37\npad 1\nhost fffa1e000302 333\nheld 0\nhost 0d07fff0 333";
+    let message = "open 37 1 37 37 37 732\npad 1\nhost fffa1e000302 333\nheld 0\nhost 0d07fff0 333";
     assert!(pad_fields(message).contains(" 00000002000000000000000000070000"));
     let between = message.replace("held 0", "pad 0\nheld 6\npad 1");
     assert_eq!(pad_fields(&between), pad_fields(message));
@@ -138,7 +151,7 @@ fn a_message_ignores_count_and_held() {
 
 #[test]
 fn state_lines() {
-    let after = |bytes: &str| last(&format!("open 1 1 1 1 1\nhost {bytes} 90\nstate"));
+    let after = |bytes: &str| last(&format!("open 1 1 1 1 1 732\nhost {bytes} 90\nstate"));
     assert_eq!(after("41"), "data - 0 000000000000");
     assert_eq!(after("ff"), "iac - 0 000000000000");
     assert_eq!(after("fffb"), "will - 0 000000000000");
@@ -155,7 +168,7 @@ fn state_lines() {
     );
     assert_eq!(after("fffa140102fff0"), "data - 0 000000000000");
     assert_eq!(after("fffa140102fffa"), "sb - 0 000000000000");
-    let held = last("open 1 1 1 1 1\nhost fffa14010203 9\nheld 1\nhost 04 9\nstate");
+    let held = last("open 1 1 1 1 1 732\nhost fffa14010203 9\nheld 1\nhost 04 9\nstate");
     assert_eq!(held, "sub 20 2 010403000000");
 }
 
@@ -166,7 +179,7 @@ fn maps(script: &str) -> String {
 
 #[test]
 fn agreed_maps_show() {
-    let open = "open 1 1 1 1 1\nhost fffd14 90\n";
+    let open = "open 1 1 1 1 1 732\nhost fffd14 90\n";
     let all = "host fffa1401fffffff0fffa1402fffffff0fffa1403fffffff0fffa1404fffffffffff0 90";
     assert_eq!(maps(open), "0000000000");
     assert_eq!(maps(&format!("{open}{all}")), "7e1f3fd079");
@@ -175,17 +188,23 @@ fn agreed_maps_show() {
     assert_eq!(maps(&format!("{open}{all}\ndet 0\nhost - 9")), "7e1f3fd079");
     assert_eq!(maps(&format!("{open}{all}\nkey 0 9")), "7e1f3fd079");
     assert_eq!(maps(&format!("{open}{all}\nhost fffe14 90")), "0000000000");
-    assert_eq!(maps(&format!("{open}{all}\nopen 1 1 1 1 1")), "0000000000");
-    assert_eq!(maps(&format!("{open}{all}\nopen 1 1 1 2 2")), "0000000000");
+    assert_eq!(
+        maps(&format!("{open}{all}\nopen 1 1 1 1 1 732")),
+        "0000000000"
+    );
+    assert_eq!(
+        maps(&format!("{open}{all}\nopen 1 1 1 2 2 732")),
+        "0000000000"
+    );
 }
 
 #[test]
 fn marks_show_at_the_end() {
-    let open = "open 3 1 3 3 3\n";
+    let open = "open 3 1 3 3 3 732\n";
     assert_eq!(marks(open), "000000");
-    assert_eq!(marks("open 3 1 3 3 2"), "0101");
-    assert_eq!(marks("open 0 0 0 0 4"), "01010101");
-    assert_eq!(marks("open 3 1 3 3 0"), "-");
+    assert_eq!(marks("open 3 1 3 3 2 732"), "0101");
+    assert_eq!(marks("open 0 0 0 0 4 732"), "01010101");
+    assert_eq!(marks("open 3 1 3 3 0 732"), "-");
     assert_eq!(marks("host - 0"), "-");
     assert_eq!(last("marks 0102"), "set");
     assert_eq!(marks("marks 0102ff\nkey 65 9"), "0102ff");
@@ -203,10 +222,35 @@ fn marks_show_at_the_end() {
     assert_eq!(answer("host - 26"), "5");
 }
 
+fn edition(script: &str) -> String {
+    fields(script, 17..18)
+}
+
+#[test]
+fn the_edition_shows_after_the_marks() {
+    assert_eq!(edition("host - 0"), "732");
+    assert_eq!(edition("open 1 1 1 1 1 731"), "731");
+    assert_eq!(edition("open 1 1 1 1 1 732"), "732");
+    let open = "open 1 1 1 1 1 731\nhost fffd14 9\n";
+    assert_eq!(edition(&format!("{open}host fffe14 9")), "731");
+    assert_eq!(edition(&format!("{open}key 0 9")), "731");
+    assert_eq!(edition(&format!("{open}open 1 1 1 1 2 731")), "732");
+    assert_eq!(edition("open 0 1 0 0 0 731"), "732");
+    let answer = |script: &str| fields(script, 0..1);
+    assert_eq!(answer("open 1 1 1 1 1 730"), "12");
+    assert_eq!(answer("open 1 1 2 1 1 733"), "12");
+    assert_eq!(answer("open 1 1 1 1 1 65535"), "12");
+    assert_eq!(answer("open 0 1 0 0 0 0"), "1");
+    assert_eq!(answer("open 1 1 2 1 1 731"), "2");
+    assert_eq!(fields("open 1 1 1 1 1 0", 10..12), "2a 11");
+    assert_eq!(edition("open 1 1 1 1 1 0"), "732");
+    assert_eq!(answer("open 1 1 1 1 1 0\nkey 65 9"), "1");
+}
+
 /// Data and other commands leave it; the next option byte clears it.
 #[test]
 fn a_count_set_outside_a_subnegotiation_stays_until_the_option_byte() {
-    let start = "open 1 1 1 1 1\ndet 1\nheld 3\n";
+    let start = "open 1 1 1 1 1 732\ndet 1\nheld 3\n";
     assert_eq!(
         last(&format!("{start}host 41fff1 9\nstate")),
         "data - 3 000000000000"
@@ -234,17 +278,20 @@ State
 \x20state
 state 1
 stat
-open 1 1 1 1
-open 1 1 1 1 1 1
-open 65536 1 1 1 1
-open 1 65536 1 1 1
-open 1 1 8449 1 1
-open 1 1 1 8449 1
-open 1 1 1 1 8449
-open  1 1 1 1 1
-open -1 1 1 1 1
-open +1 1 1 1 1
-open 1 1 1 1 x
+open 1 1 1 1 1
+open 1 1 1 1 1 732 1
+open 1 1 1 1 1 65536
+open 1 1 1 1 1 -
+open 65536 1 1 1 1 732
+open 1 65536 1 1 1 732
+open 1 1 8449 1 1 732
+open 1 1 1 8449 1 732
+open 1 1 1 1 8449 732
+open  1 1 1 1 1 732
+open -1 1 1 1 1 732
+open +1 1 1 1 1 732
+open 1 1 1 1 x 732
+open 1 1 1 1 1 x
 marks
 marks 1
 marks 0A

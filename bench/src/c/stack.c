@@ -29,8 +29,8 @@ static void nothing(void) {}
 
 static void call_open(void) {
     size_t cells = now.width * now.height;
-    answer = open_by(now.width, now.height, now.chars, cells, now.attrs, cells, now.marks, cells,
-                     now.session, DET_SESSION_LENGTH);
+    answer = open_by(now.width, now.height, DET_SEPTEMBER, now.chars, cells, now.attrs, cells,
+                     now.marks, cells, now.session, DET_SESSION_LENGTH);
 }
 
 static void call_host(void) {

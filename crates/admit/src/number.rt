@@ -20,5 +20,6 @@ pub fn number_of(refusal: Refusal) -> u8
         Refusal::NoMeaning => 9,
         Refusal::LineFull => 10,
         Refusal::BadMark => 11,
+        Refusal::UnknownEdition => 12,
     }
 }

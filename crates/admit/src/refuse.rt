@@ -1,9 +1,10 @@
 // What every operation asks of its sizes, session and buffers, in document 01's order.
 ghost use mathlib.Core.Path.{_≡_};
-ghost use mathlib.Core.Bool.{not, _||_};
+ghost use mathlib.Core.Bool.{not, _&&_, _||_};
 ghost use mathlib.Core.List.{List};
 ghost use Prim.Native.Nat.{ℕ, min, max};
-ghost use lib.Dec.{leb};
+ghost use lib.Dec.{leb, eqb};
+ghost use lib.ListN.{length};
 ghost use Rattle.rules.specs.Session.{
   sizesOk,
   cells,
@@ -17,9 +18,11 @@ ghost use Rattle.rules.specs.Session.{
   screen,
   state,
 };
-ghost use Rattle.rules.specs.Refusal.{verdict, sizeTests, stateTests};
+ghost use Rattle.rules.specs.Edition.{editionOf};
+ghost use Rattle.rules.specs.Refusal.{verdict, openTests, sizeTests, stateTests};
 ghost use Rattle.rules.specs.Operation.{hostRefusal};
 ghost use Rattle.command.specs.Frame.{lent};
+use crate::edition::is_edition;
 use pad::parameter::all_admissible;
 use rules::Frame;
 use rules::Pad;
@@ -137,21 +140,59 @@ pub fn reply_room(frame: Frame) -> usize
     9 * (frame.height as usize * frame.width as usize)
 }
 
-// Refusals 1 and 2, all that open has.
-pub fn refuse_sizes(m: usize, n: usize, chars: &[u8], attrs: &[u8], marks: &[u8]) -> Refusal
-    ensures { λ r. ⌜ r ≡ verdict (sizeTests (freshFrame m n) (lent (chars .entry) (attrs .entry) (marks .entry))) ⌝ }
+// Each buffer has a byte for each cell.
+fn lengths_ok(cells: usize, chars: &[u8], attrs: &[u8], marks: &[u8]) -> bool
+    ensures { λ r. ⌜ r ≡ (eqb (length (now (chars .entry))) cells
+        && (eqb (length (now (attrs .entry))) cells && eqb (length (now (marks .entry))) cells)) ⌝ }
+{
+    if chars.len() != cells {
+        return false;
+    }
+    if attrs.len() != cells {
+        return false;
+    }
+    marks.len() == cells
+}
+
+// Refusals 1, 12 and 2, all that open has.
+pub(crate) fn refuse_open(
+    m: usize,
+    n: usize,
+    named: usize,
+    chars: &[u8],
+    attrs: &[u8],
+    marks: &[u8],
+) -> Refusal
+    ensures { λ r. ⌜ r ≡ verdict (openTests (freshFrame m n (editionOf named)) named
+        (lent (chars .entry) (attrs .entry) (marks .entry))) ⌝ }
 {
     let sized = sizes_ok(m, n);
     if !sized {
         return Refusal::Size;
     }
-    if chars.len() != n * m {
+    let known = is_edition(named);
+    if !known {
+        return Refusal::UnknownEdition;
+    }
+    let long = lengths_ok(n * m, chars, attrs, marks);
+    if !long {
         return Refusal::BufferLength;
     }
-    if attrs.len() != n * m {
-        return Refusal::BufferLength;
+    Refusal::Taken
+}
+
+// Refusals 1 and 2, of a session.
+fn refuse_sizes(frame: Frame, chars: &[u8], attrs: &[u8], marks: &[u8]) -> Refusal
+    ensures { λ r. ⌜ r ≡ verdict (sizeTests frame (lent (chars .entry) (attrs .entry) (marks .entry))) ⌝ }
+{
+    let m = frame.width as usize;
+    let n = frame.height as usize;
+    let sized = sizes_ok(m, n);
+    if !sized {
+        return Refusal::Size;
     }
-    if marks.len() != n * m {
+    let long = lengths_ok(n * m, chars, attrs, marks);
+    if !long {
         return Refusal::BufferLength;
     }
     Refusal::Taken
@@ -184,13 +225,7 @@ fn refuse_state(session: Session, chars: &[u8], marks: &[u8], reply: &[u8]) -> R
 pub fn refuse(session: Session, chars: &[u8], attrs: &[u8], marks: &[u8], reply: &[u8]) -> Refusal
     ensures { λ r. ⌜ r ≡ hostRefusal (state session (lent (chars .entry) (attrs .entry) (marks .entry))) (now (reply .entry)) ⌝ }
 {
-    let why = refuse_sizes(
-        session.frame.width as usize,
-        session.frame.height as usize,
-        chars,
-        attrs,
-        marks,
-    );
+    let why = refuse_sizes(session.frame, chars, attrs, marks);
     let Refusal::Taken = why else {
         return why;
     };

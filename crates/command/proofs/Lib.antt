@@ -1,4 +1,4 @@
 pub mod HeldLaws
-pub mod ListLaws
+pub mod CodeLaws
 pub mod RefusalLaws
 pub mod FaultLaws

@@ -3,7 +3,8 @@ ghost use mathlib.Core.Path.{_≡_};
 ghost use mathlib.Core.Bool.{_&&_};
 ghost use Rattle.words.specs.Words.{bit};
 ghost use Rattle.rules.specs.Session.{noMaps};
-ghost use Rattle.rules.specs.Facility.{receiving, agreed};
+ghost use Rattle.rules.specs.Facility.{ownFormat0, ownMaps, receiving, agreed};
+use rules::Edition;
 use rules::Facility;
 use rules::Governor;
 use rules::Maps;
@@ -53,14 +54,28 @@ pub(crate) const PROTECTION_ON_OFF: Governor = Governor::Format1Bit(64);
 
 pub(crate) const PROTECTION: Governor = Governor::Format1Bit(32);
 
+// June has no TRANSMIT MODIFIED, and its bit is off.
+fn own_format0(edition: Edition) -> u8
+    ensures { λ r. ⌜ r ≡ ownFormat0 edition ⌝ }
+{
+    match edition {
+        Edition::June => 144,
+        Edition::September => 208,
+    }
+}
+
 // The terminal's own maps.
-pub const OWN: Maps = Maps {
-    edit: 126,
-    erase: 31,
-    transmit: 63,
-    format0: 208,
-    format1: 121,
-};
+pub fn own_maps(edition: Edition) -> Maps
+    ensures { λ r. ⌜ r ≡ ownMaps edition ⌝ }
+{
+    Maps {
+        edit: 126,
+        erase: 31,
+        transmit: 63,
+        format0: own_format0(edition),
+        format1: 121,
+    }
+}
 
 pub fn no_maps() -> Maps
     ensures { λ r. ⌜ r ≡ noMaps ⌝ }
@@ -105,15 +120,16 @@ fn in_both(weight: u8, received: u8, own: u8) -> bool
 }
 
 // Is what governs a subcommand agreed, these maps having been received?
-pub fn is_agreed(maps: Maps, governor: Governor) -> bool
-    ensures { λ r. ⌜ r ≡ agreed maps governor ⌝ }
+pub fn is_agreed(edition: Edition, maps: Maps, governor: Governor) -> bool
+    ensures { λ r. ⌜ r ≡ agreed edition maps governor ⌝ }
 {
+    let own = own_maps(edition);
     match governor {
         Governor::Ungoverned => true,
-        Governor::EditBit(weight) => in_both(weight, maps.edit, OWN.edit),
-        Governor::EraseBit(weight) => in_both(weight, maps.erase, OWN.erase),
-        Governor::TransmitBit(weight) => in_both(weight, maps.transmit, OWN.transmit),
-        Governor::Format0Bit(weight) => in_both(weight, maps.format0, OWN.format0),
-        Governor::Format1Bit(weight) => in_both(weight, maps.format1, OWN.format1),
+        Governor::EditBit(weight) => in_both(weight, maps.edit, own.edit),
+        Governor::EraseBit(weight) => in_both(weight, maps.erase, own.erase),
+        Governor::TransmitBit(weight) => in_both(weight, maps.transmit, own.transmit),
+        Governor::Format0Bit(weight) => in_both(weight, maps.format0, own.format0),
+        Governor::Format1Bit(weight) => in_both(weight, maps.format1, own.format1),
     }
 }

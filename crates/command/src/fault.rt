@@ -87,8 +87,9 @@ pub fn fault_of(
 ) -> Fault
     ensures { λ r. ⌜ r ≡ faultOf (seen frame (attrs .entry)) command parameters governor held ⌝ }
 {
+    let edition = frame.edition;
     let maps = frame.received;
-    let agreed = is_agreed(maps, governor);
+    let agreed = is_agreed(edition, maps, governor);
     if !agreed {
         return Fault::NotAgreed;
     }

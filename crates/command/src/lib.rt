@@ -7,3 +7,4 @@ pub mod frame;
 pub mod held;
 mod meaning;
 pub mod number;
+pub mod sent;

@@ -1,8 +1,8 @@
-// What the list of subcommands means by the names in its rows, and the facility that governs each.
+// The list of commands that are received: what each means, how many parameters it takes, and the facility that governs it.
 ghost use mathlib.Core.Path.{_≡_};
-ghost use Rattle.rules.specs.Command.{rows};
-ghost use Rattle.command.specs.inner.List.{meaningAt};
+ghost use Rattle.rules.specs.Command.{rows, rowIn, meaning};
 use crate::facility;
+use crate::number::*;
 use edit::range::Shift::*;
 use rules::Area::*;
 use rules::Code;
@@ -12,84 +12,6 @@ use rules::Destination::*;
 use rules::Facility::*;
 use rules::Governor;
 use rules::Governor::Ungoverned;
-
-// The names, numbered in the list's order. They are no codes.
-pub(crate) const EDIT_FACILITIES: u8 = 0;
-
-pub(crate) const ERASE_FACILITIES: u8 = 1;
-
-pub(crate) const TRANSMIT_FACILITIES: u8 = 2;
-
-pub(crate) const FORMAT_FACILITIES: u8 = 3;
-
-pub(crate) const MOVE_CURSOR: u8 = 4;
-
-pub(crate) const SKIP_TO_LINE: u8 = 5;
-
-pub(crate) const SKIP_TO_CHAR: u8 = 6;
-
-pub(crate) const UP: u8 = 7;
-
-pub(crate) const DOWN: u8 = 8;
-
-pub(crate) const LEFT: u8 = 9;
-
-pub(crate) const RIGHT: u8 = 10;
-
-pub(crate) const HOME: u8 = 11;
-
-pub(crate) const LINE_INSERT: u8 = 12;
-
-pub(crate) const LINE_DELETE: u8 = 13;
-
-pub(crate) const CHAR_INSERT: u8 = 14;
-
-pub(crate) const CHAR_DELETE: u8 = 15;
-
-pub(crate) const READ_CURSOR: u8 = 16;
-
-pub(crate) const REVERSE_TAB: u8 = 17;
-
-pub(crate) const TRANSMIT_SCREEN: u8 = 18;
-
-pub(crate) const TRANSMIT_UNPROTECTED: u8 = 19;
-
-pub(crate) const TRANSMIT_LINE: u8 = 20;
-
-pub(crate) const TRANSMIT_FIELD: u8 = 21;
-
-pub(crate) const TRANSMIT_REST_OF_SCREEN: u8 = 22;
-
-pub(crate) const TRANSMIT_REST_OF_LINE: u8 = 23;
-
-pub(crate) const TRANSMIT_REST_OF_FIELD: u8 = 24;
-
-pub(crate) const TRANSMIT_MODIFIED: u8 = 25;
-
-pub(crate) const ERASE_SCREEN: u8 = 26;
-
-pub(crate) const ERASE_LINE: u8 = 27;
-
-pub(crate) const ERASE_FIELD: u8 = 28;
-
-pub(crate) const ERASE_REST_OF_SCREEN: u8 = 29;
-
-pub(crate) const ERASE_REST_OF_LINE: u8 = 30;
-
-pub(crate) const ERASE_REST_OF_FIELD: u8 = 31;
-
-pub(crate) const ERASE_UNPROTECTED: u8 = 32;
-
-pub(crate) const FORMAT_DATA: u8 = 33;
-
-pub(crate) const REPEAT: u8 = 34;
-
-pub(crate) const SUPPRESS_PROTECTION: u8 = 35;
-
-pub(crate) const ERROR: u8 = 36;
-
-// What a code without a row means.
-pub(crate) const UNKNOWN: u8 = 255;
 
 fn known(command: Command, parameters: u8, governor: Governor) -> Code
     ensures { λ r. ⌜ r ≡ Code.Known command parameters governor ⌝ }
@@ -101,52 +23,52 @@ fn known(command: Command, parameters: u8, governor: Governor) -> Code
     }
 }
 
-// What a row means that has this name and n parameters.
-pub(crate) fn meaning_of(meaning: u8, n: u8) -> Code
-    ensures { λ r. ⌜ r ≡ meaningAt rows meaning n ⌝ }
+// What the row of this command says: its meaning, how many parameters it takes, and what governs it. What is sent only has none.
+pub(crate) fn meaning_of(command: u8) -> Code
+    ensures { λ r. ⌜ r ≡ meaning (rowIn rows command) ⌝ }
 {
-    match meaning {
-        EDIT_FACILITIES => known(Facilities(Editing), n, Ungoverned),
-        ERASE_FACILITIES => known(Facilities(Erasing), n, Ungoverned),
-        TRANSMIT_FACILITIES => known(Facilities(Transmitting), n, Ungoverned),
-        FORMAT_FACILITIES => known(Facilities(Formatting), n, Ungoverned),
-        MOVE_CURSOR => known(MoveCursor, n, Ungoverned),
-        SKIP_TO_LINE => known(SkipToLine, n, facility::TOROIDAL_ADDRESSING),
-        SKIP_TO_CHAR => known(SkipToChar, n, facility::TOROIDAL_ADDRESSING),
-        UP => known(Move(Up), n, facility::INCREMENTAL_ADDRESSING),
-        DOWN => known(Move(Down), n, facility::INCREMENTAL_ADDRESSING),
-        LEFT => known(Move(Left), n, facility::INCREMENTAL_ADDRESSING),
-        RIGHT => known(Move(Right), n, facility::INCREMENTAL_ADDRESSING),
-        HOME => known(Move(Home), n, Ungoverned),
-        LINE_INSERT => known(LineShift(Insertion), n, facility::LINE_INSERT_DELETE),
-        LINE_DELETE => known(LineShift(Deletion), n, facility::LINE_INSERT_DELETE),
-        CHAR_INSERT => known(CharShift(Insertion), n, facility::CHAR_INSERT_DELETE),
-        CHAR_DELETE => known(CharShift(Deletion), n, facility::CHAR_INSERT_DELETE),
-        READ_CURSOR => known(ReadCursor, n, facility::READ_CURSOR_ADDRESS),
-        REVERSE_TAB => known(Move(ReverseTab), n, facility::BACK_TAB),
-        TRANSMIT_SCREEN => known(Transmit(WholeScreen), n, Ungoverned),
-        TRANSMIT_UNPROTECTED => known(Transmit(Unprotected), n, facility::PROTECTION),
-        TRANSMIT_LINE => known(Transmit(WholeLine), n, facility::TRANSMIT_LINE),
-        TRANSMIT_FIELD => known(Transmit(WholeField), n, facility::TRANSMIT_FIELD),
+    match command {
+        EDIT_FACILITIES => known(Facilities(Editing), 1, Ungoverned),
+        ERASE_FACILITIES => known(Facilities(Erasing), 1, Ungoverned),
+        TRANSMIT_FACILITIES => known(Facilities(Transmitting), 1, Ungoverned),
+        FORMAT_FACILITIES => known(Facilities(Formatting), 2, Ungoverned),
+        MOVE_CURSOR => known(MoveCursor, 2, Ungoverned),
+        SKIP_TO_LINE => known(SkipToLine, 1, facility::TOROIDAL_ADDRESSING),
+        SKIP_TO_CHAR => known(SkipToChar, 1, facility::TOROIDAL_ADDRESSING),
+        UP => known(Move(Up), 0, facility::INCREMENTAL_ADDRESSING),
+        DOWN => known(Move(Down), 0, facility::INCREMENTAL_ADDRESSING),
+        LEFT => known(Move(Left), 0, facility::INCREMENTAL_ADDRESSING),
+        RIGHT => known(Move(Right), 0, facility::INCREMENTAL_ADDRESSING),
+        HOME => known(Move(Home), 0, Ungoverned),
+        LINE_INSERT => known(LineShift(Insertion), 0, facility::LINE_INSERT_DELETE),
+        LINE_DELETE => known(LineShift(Deletion), 0, facility::LINE_INSERT_DELETE),
+        CHAR_INSERT => known(CharShift(Insertion), 0, facility::CHAR_INSERT_DELETE),
+        CHAR_DELETE => known(CharShift(Deletion), 0, facility::CHAR_INSERT_DELETE),
+        READ_CURSOR => known(ReadCursor, 0, facility::READ_CURSOR_ADDRESS),
+        REVERSE_TAB => known(Move(ReverseTab), 0, facility::BACK_TAB),
+        TRANSMIT_SCREEN => known(Transmit(WholeScreen), 0, Ungoverned),
+        TRANSMIT_UNPROTECTED => known(Transmit(Unprotected), 0, facility::PROTECTION),
+        TRANSMIT_LINE => known(Transmit(WholeLine), 0, facility::TRANSMIT_LINE),
+        TRANSMIT_FIELD => known(Transmit(WholeField), 0, facility::TRANSMIT_FIELD),
         TRANSMIT_REST_OF_SCREEN => known(
             Transmit(RestOfScreen),
-            n,
+            0,
             facility::TRANSMIT_REST_OF_SCREEN,
         ),
-        TRANSMIT_REST_OF_LINE => known(Transmit(RestOfLine), n, facility::TRANSMIT_REST_OF_LINE),
-        TRANSMIT_REST_OF_FIELD => known(Transmit(RestOfField), n, facility::TRANSMIT_REST_OF_FIELD),
-        TRANSMIT_MODIFIED => known(TransmitModified, n, facility::MODIFIED),
-        ERASE_SCREEN => known(Erase(WholeScreen), n, Ungoverned),
-        ERASE_LINE => known(Erase(WholeLine), n, facility::ERASE_LINE),
-        ERASE_FIELD => known(Erase(WholeField), n, facility::ERASE_FIELD),
-        ERASE_REST_OF_SCREEN => known(Erase(RestOfScreen), n, facility::ERASE_REST_OF_SCREEN),
-        ERASE_REST_OF_LINE => known(Erase(RestOfLine), n, facility::ERASE_REST_OF_LINE),
-        ERASE_REST_OF_FIELD => known(Erase(RestOfField), n, facility::ERASE_REST_OF_FIELD),
-        ERASE_UNPROTECTED => known(Erase(Unprotected), n, facility::PROTECTION),
-        FORMAT_DATA => known(FormatData, n, Ungoverned),
-        REPEAT => known(Repeat, n, facility::REPEATING),
-        SUPPRESS_PROTECTION => known(SuppressProtection, n, facility::PROTECTION_ON_OFF),
-        ERROR => known(Error, n, Ungoverned),
+        TRANSMIT_REST_OF_LINE => known(Transmit(RestOfLine), 0, facility::TRANSMIT_REST_OF_LINE),
+        TRANSMIT_REST_OF_FIELD => known(Transmit(RestOfField), 0, facility::TRANSMIT_REST_OF_FIELD),
+        TRANSMIT_MODIFIED => known(TransmitModified, 0, facility::MODIFIED),
+        ERASE_SCREEN => known(Erase(WholeScreen), 0, Ungoverned),
+        ERASE_LINE => known(Erase(WholeLine), 0, facility::ERASE_LINE),
+        ERASE_FIELD => known(Erase(WholeField), 0, facility::ERASE_FIELD),
+        ERASE_REST_OF_SCREEN => known(Erase(RestOfScreen), 0, facility::ERASE_REST_OF_SCREEN),
+        ERASE_REST_OF_LINE => known(Erase(RestOfLine), 0, facility::ERASE_REST_OF_LINE),
+        ERASE_REST_OF_FIELD => known(Erase(RestOfField), 0, facility::ERASE_REST_OF_FIELD),
+        ERASE_UNPROTECTED => known(Erase(Unprotected), 0, facility::PROTECTION),
+        FORMAT_DATA => known(FormatData, 4, Ungoverned),
+        REPEAT => known(Repeat, 2, facility::REPEATING),
+        SUPPRESS_PROTECTION => known(SuppressProtection, 1, facility::PROTECTION_ON_OFF),
+        ERROR => known(Error, 2, Ungoverned),
         _ => Code::Unknown,
     }
 }

@@ -8,11 +8,12 @@ use lib.ListN.{length}
 use Rattle.words.specs.Words.{if_then_else_}
 use Rattle.edit.specs.Edits.{filled}
 use Rattle.rules.specs.declared.Held.{Held}
+use Rattle.rules.specs.declared.Edition.{Edition}
 use Rattle.rules.specs.Number.{detOption}
 use Rattle.rules.specs.Session.{View, view, withAttrs}
-use Rattle.rules.specs.Effect.{Effect, Part, put, erase, shift, cleared, text, message, changing, quiet, writing}
+use Rattle.rules.specs.Effect.{Effect, Part, put, erase, shift, cleared, bytes, text, message, changing, quiet, writing}
 use Rattle.rules.specs.Telnet.{answer, hostCharacters}
-use Rattle.rules.specs.Subcommand.{preface, fieldTexts, withoutFirst, modifiedTexts, subcommand}
+use Rattle.rules.specs.Subcommand.{prefaceBytes, fieldTexts, withoutFirst, modifiedTexts, subcommand}
 use Rattle.command.specs.Frame.{fitting}
 use Rattle.decide.specs.declared.decision.Edit.{Edit}
 use Rattle.decide.specs.declared.decision.Edit.the-variants.{Nothing, Put, Erase, Shift, Repeat}
@@ -30,16 +31,16 @@ edited v (Erase suppressed from end) = changing v (erase suppressed from end ∷
 edited v (Shift s from end by) = writing v (shift s from end by) from end
 edited v (Repeat n c) = hostCharacters n v c
 
--- what is sent
-abbrev pub partsOf : List ℕ → Say → List Part
-partsOf attrs Silent = []
-partsOf attrs (Negotiation verb option) = answer verb option
-partsOf attrs (Two code a) = message (code ∷ a ∷ []) ∷ []
-partsOf attrs (Three code a b) = message (code ∷ a ∷ b ∷ []) ∷ []
-partsOf attrs (Preface p) = preface p ∷ []
-partsOf attrs (Text p from end) = preface p ∷ text from end ∷ []
-partsOf attrs (Fields p) = preface p ∷ withoutFirst (fieldTexts attrs 0 (length attrs))
-partsOf attrs (Modified width) = modifiedTexts width attrs 0 (length attrs)
+-- what is sent, with the codes of an edition
+abbrev pub partsOf : Edition → List ℕ → Say → List Part
+partsOf e attrs Silent = []
+partsOf e attrs (Negotiation verb option) = answer verb option
+partsOf e attrs (Two code a) = message (code ∷ a ∷ []) ∷ []
+partsOf e attrs (Three code a b) = message (code ∷ a ∷ b ∷ []) ∷ []
+partsOf e attrs (Preface p) = bytes (prefaceBytes e p) ∷ []
+partsOf e attrs (Text p from end) = bytes (prefaceBytes e p) ∷ text from end ∷ []
+partsOf e attrs (Fields p) = bytes (prefaceBytes e p) ∷ withoutFirst (fieldTexts e attrs 0 (length attrs))
+partsOf e attrs (Modified width) = modifiedTexts e width attrs 0 (length attrs)
 
 -- what becomes of the attribute bytes
 abbrev pub attrsOf : Format → List ℕ → List ℕ
@@ -53,7 +54,7 @@ meant attrs d =
       view = withAttrs (e .view) (attrsOf (d .format) attrs);
       changes = e .changes;
       marking = if d .clear then cleared else e .marking;
-      reply = partsOf attrs (d .say);
+      reply = partsOf (d .frame .edition) attrs (d .say);
       executed = [];
     }
 

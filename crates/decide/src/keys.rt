@@ -27,7 +27,7 @@ use command::frame::cursor_cell;
 use command::frame::cursor_guarded;
 use command::frame::fits;
 use command::frame::moved;
-use command::number::FN;
+use command::sent;
 use edit::range::Shift;
 use rules::Area;
 use rules::Destination;
@@ -136,13 +136,16 @@ fn press_taken(frame: Frame, attrs: &[u8], key: Key) -> Decision
         Key::Tab => quiet(sent_to(frame, attrs, Destination::NextField)),
         Key::Send => transmit(frame, attrs, Area::Unprotected),
         Key::Delete => char_shift(frame, attrs, Shift::Deletion),
-        Key::Function(number) => saying(
-            frame,
-            Say::Two {
-                code: FN,
-                a: number,
-            },
-        ),
+        Key::Function(number) => {
+            let edition = frame.edition;
+            saying(
+                frame,
+                Say::Two {
+                    code: sent::function_key(edition),
+                    a: number,
+                },
+            )
+        }
         Key::Meaningless => quiet(frame),
     }
 }

@@ -4,6 +4,7 @@ ghost use mathlib.Core.List.{List, [], _∷_};
 ghost use Prim.Native.Nat.{ℕ};
 ghost use Rattle.rules.specs.Session.{view};
 ghost use Rattle.rules.specs.Number.{cursorPosition, error, faultNumber};
+ghost use Rattle.rules.specs.Edition.{codeFor};
 ghost use Rattle.rules.specs.Facility.{ownMap};
 ghost use Rattle.rules.specs.Effect.{message};
 ghost use Rattle.rules.specs.Subcommand.{suppressing, obeyed, subcommand};
@@ -28,7 +29,7 @@ use crate::decision::saying;
 use crate::transmit::send_modified;
 use crate::transmit::transmit;
 use command::code::command_of;
-use command::facility::OWN;
+use command::facility::own_maps;
 use command::facility::receive;
 use command::fault::fault_of;
 use command::fault::format_end;
@@ -39,17 +40,16 @@ use command::frame::with_received;
 use command::held::code;
 use command::held::first_parameter;
 use command::held::second_parameter;
-use command::number::CURSOR_POSITION;
 use command::number::DET;
 use command::number::EDIT_FACILITIES;
 use command::number::ERASE_FACILITIES;
-use command::number::ERROR;
 use command::number::FORMAT_FACILITIES;
-use command::number::SUPPRESS_PROTECTION;
 use command::number::TRANSMIT_FACILITIES;
 use command::number::fault_number;
+use command::sent;
 use rules::Code;
 use rules::Command;
+use rules::Edition;
 use rules::Facility;
 use rules::Fault;
 use rules::Frame;
@@ -61,26 +61,27 @@ use telnet::code::WILL;
 use telnet::code::WONT;
 
 // The terminal's own map of a class, after its code.
-fn own_map(facility: Facility) -> Say
-    ensures { λ r. ⌜ ((attrs : List ℕ) → (partsOf attrs r ≡ message (ownMap facility) ∷ []) × Sendable attrs r) ⌝ }
+fn own_map(edition: Edition, facility: Facility) -> Say
+    ensures { λ r. ⌜ ((attrs : List ℕ) → (partsOf edition attrs r ≡ message (ownMap edition facility) ∷ []) × Sendable attrs r) ⌝ }
 {
+    let own = own_maps(edition);
     match facility {
         Facility::Editing => Say::Two {
             code: EDIT_FACILITIES,
-            a: OWN.edit,
+            a: own.edit,
         },
         Facility::Erasing => Say::Two {
             code: ERASE_FACILITIES,
-            a: OWN.erase,
+            a: own.erase,
         },
         Facility::Transmitting => Say::Two {
             code: TRANSMIT_FACILITIES,
-            a: OWN.transmit,
+            a: own.transmit,
         },
         Facility::Formatting => Say::Three {
             code: FORMAT_FACILITIES,
-            a: OWN.format0,
-            b: OWN.format1,
+            a: own.format0,
+            b: own.format1,
         },
     }
 }
@@ -95,18 +96,21 @@ fn facilities(frame: Frame, facility: Facility, held: Held) -> Decision
         first_parameter(held),
         second_parameter(held),
     );
-    saying(with_received(frame, maps), own_map(facility))
+    let edition = frame.edition;
+    saying(with_received(frame, maps), own_map(edition, facility))
 }
 
 // 17: answer 18 x y.
 fn read_cursor(frame: Frame) -> Decision
-    ensures { λ r. ⌜ r ≡ decision frame Edit.Nothing (Say.Three cursorPosition (frame .cursor .x .0) (frame .cursor .y .0)) Format.Keep ⌝ }
+    ensures { λ r. ⌜ r ≡ decision frame Edit.Nothing
+        (Say.Three (codeFor (frame .edition) cursorPosition) (frame .cursor .x .0) (frame .cursor .y .0)) Format.Keep ⌝ }
 {
     let cursor = frame.cursor;
+    let edition = frame.edition;
     saying(
         frame,
         Say::Three {
-            code: CURSOR_POSITION,
+            code: sent::cursor_position(edition),
             a: cursor.x.0,
             b: cursor.y.0,
         },
@@ -134,6 +138,8 @@ fn format_data(frame: Frame, held: Held) -> Decision
 fn suppress(frame: Frame, parameter: u8) -> Decision
     ensures { λ r. ⌜ ((attrs : List ℕ) → Decides (view frame attrs) r (λ v. suppressing v parameter)) ⌝ }
 {
+    let edition = frame.edition;
+    let code = sent::suppress_protection(edition);
     match parameter {
         DO => {
             if frame.suppressed {
@@ -142,7 +148,7 @@ fn suppress(frame: Frame, parameter: u8) -> Decision
             saying(
                 switched(frame, frame.det, true),
                 Say::Two {
-                    code: SUPPRESS_PROTECTION,
+                    code: code,
                     a: WILL,
                 },
             )
@@ -152,7 +158,7 @@ fn suppress(frame: Frame, parameter: u8) -> Decision
                 return saying(
                     switched(frame, frame.det, false),
                     Say::Two {
-                        code: SUPPRESS_PROTECTION,
+                        code: code,
                         a: WONT,
                     },
                 );
@@ -162,7 +168,7 @@ fn suppress(frame: Frame, parameter: u8) -> Decision
         WILL => saying(
             frame,
             Say::Two {
-                code: SUPPRESS_PROTECTION,
+                code: code,
                 a: DONT,
             },
         ),
@@ -202,12 +208,13 @@ fn obey(frame: Frame, attrs: &[u8], command: Command, held: Held) -> Decision
 
 // 41, the command and the number.
 fn err(frame: Frame, code: u8, fault: Fault) -> Decision
-    ensures { λ r. ⌜ r ≡ decision frame Edit.Nothing (Say.Three error code (faultNumber fault)) Format.Keep ⌝ }
+    ensures { λ r. ⌜ r ≡ decision frame Edit.Nothing (Say.Three (codeFor (frame .edition) error) code (faultNumber fault)) Format.Keep ⌝ }
 {
+    let edition = frame.edition;
     saying(
         frame,
         Say::Three {
-            code: ERROR,
+            code: sent::error(edition),
             a: code,
             b: fault_number(fault),
         },
@@ -245,7 +252,8 @@ fn obey_held(frame: Frame, attrs: &[u8], held: Held) -> Decision
         return err(frame, 0, Fault::TooFewParameters);
     }
     let number = code(held);
-    let known = command_of(number);
+    let edition = frame.edition;
+    let known = command_of(edition, number);
     match known {
         Code::Known {
             command,

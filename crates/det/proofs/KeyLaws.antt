@@ -100,7 +100,7 @@ module _ (s : State) (reply : List ℕ) (code : ℕ) (p : keyRefusal s reply cod
     key-means : meant (s .screen .attrs) d ≡ shown (pressed (viewOf s) (keyOf code))
     key-means = (rw q at t) .meaning
 
-    parts : partsOf (s .screen .attrs) (d .say) ≡ (pressed (viewOf s) (keyOf code)) .reply
+    parts : partsOf (d .frame .edition) (s .screen .attrs) (d .say) ≡ (pressed (viewOf s) (keyOf code)) .reply
     parts = ap (λ (o : Effect). o .reply) key-means
 
     -- what it marks
@@ -110,12 +110,12 @@ module _ (s : State) (reply : List ℕ) (code : ℕ) (p : keyRefusal s reply cod
         rw (← marking-of (view (d .frame) (s .screen .attrs)) (d .edit)) (ap (λ (x : Effect). marksAfter (s .screen .marks) (x .marking)) key-means)
 
     -- the reply can be written
-    key-sayable : Sayable (d .say) (s .screen) reply 0
+    key-sayable : Sayable (d .frame .edition) (d .say) (s .screen) reply 0
     key-sayable = sayable s reply 0 permits-accepts (t .sendable) (rw (← parts) at (rw does at (room-key (found .sound) code)))
 
     -- and what is done is what the key does
     pub key-settled : {f : Frame} {chars marks reply′ : List ℕ} {written : ℕ} → let b = s .screen in
-        Wrote reply 0 (sayPieces (b .chars) (b .attrs) (b .marks) (d .say)) reply′ written
+        Wrote reply 0 (sayPieces (d .frame .edition) (b .chars) (b .attrs) (b .marks) (d .say)) reply′ written
         → Changes (edited (view (d .frame) (b .attrs)) (d .edit)) (b .chars) (b .attrs) f chars
         → marks ≡ marksAfter (b .marks) (if d .clear then cleared else markingOf (d .edit))
         → outcome (record { session = session f (s .session .reader) (s .session .pad); refusal = Taken; taken = 1; written = written })

@@ -14,6 +14,7 @@ use Rattle.telnet.specs.declared.Event.the-variants.{Nothing, Data, Negotiation
 use Rattle.telnet.specs.declared.Step.{Step}
 use Rattle.telnet.specs.Reader.{readOf}
 use Rattle.rules.specs.declared.Held.{Held}
+use Rattle.rules.specs.declared.Edition.{Edition}
 use Rattle.rules.specs.declared.Frame.{Frame}
 use Rattle.rules.specs.declared.Reader.{Reader}
 use Rattle.rules.specs.declared.Pad.{Pad}
@@ -54,9 +55,9 @@ module _ {e : Effect} {f : Frame} {b : Screen} {reply : List ℕ} {at : ℕ} (a 
   means = p .meaning ∙ ap shown q
 
   -- the reply can be written
-  pub decided-sayable : Sayable (d .say) b reply at
+  pub decided-sayable : Sayable (d .frame .edition) (d .say) b reply at
   decided-sayable =
-      let parts : partsOf (b .attrs) (d .say) ≡ e .reply = ap (λ (x : Effect). x .reply) means in
+      let parts : partsOf (d .frame .edition) (b .attrs) (d .say) ≡ e .reply = ap (λ (x : Effect). x .reply) means in
       record { sendable = p .sendable; long = a .long; room = rw parts (a .room) }
 
   -- and what is applied is the effect
@@ -172,9 +173,9 @@ module _ (s : State) (reply : List ℕ) (at : ℕ) (a : Accepts s reply at) wher
   equally-long = let k = accepted .sound in k .chars .long ∙ sym (k .view .attrs)
 
   -- what is said can be written, if it is no longer than the worst
-  pub sayable : {say : Say} → Sendable (s .screen .attrs) say
-      → length (spelledAll (s .screen) (partsOf (s .screen .attrs) say)) ≤ replyRoom (s .session .frame)
-      → Sayable say (s .screen) reply at
+  pub sayable : {e : Edition} {say : Say} → Sendable (s .screen .attrs) say
+      → length (spelledAll (s .screen) (partsOf e (s .screen .attrs) say)) ≤ replyRoom (s .session .frame)
+      → Sayable e say (s .screen) reply at
   sayable t h = record { sendable = t; long = equally-long; room = fits-worst h }
 
   module _ (byte : ℕ) {step : Step} (e : step ≡ readOf (s .session .reader .phase) byte) where

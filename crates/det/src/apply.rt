@@ -20,6 +20,7 @@ use edit::range::erase;
 use edit::range::fill;
 use edit::range::shift_range;
 use reply::write_reply;
+use rules::Edition;
 use rules::Frame;
 use text::data::put_character;
 use text::data::set_cell;
@@ -114,15 +115,23 @@ pub(crate) fn mark(clear: bool, edit: Edit, marks: &mut [u8])
 }
 
 // Most decisions say nothing and change no character: those take no call, and no copy of what a call is given.
-fn say_any(say: Say, chars: &[u8], attrs: &[u8], marks: &[u8], reply: &mut [u8], at: usize) -> usize
+fn say_any(
+    edition: Edition,
+    say: Say,
+    chars: &[u8],
+    attrs: &[u8],
+    marks: &[u8],
+    reply: &mut [u8],
+    at: usize,
+) -> usize
     ensures { λ r. ⌜ Wrote (now (reply .entry)) at
-        (sayPieces (now (chars .entry)) (now (attrs .entry)) (now (marks .entry)) say) (now (reply .exit)) r ⌝ }
+        (sayPieces edition (now (chars .entry)) (now (attrs .entry)) (now (marks .entry)) say) (now (reply .exit)) r ⌝ }
 {
     match say {
         Say::Silent => at,
         _ => {
             let spoken = say;
-            write_reply(spoken, chars, attrs, marks, reply, at)
+            write_reply(edition, spoken, chars, attrs, marks, reply, at)
         }
     }
 }
@@ -147,15 +156,17 @@ pub(crate) fn apply(
     reply: &mut [u8],
     at: usize,
 ) -> Applied
-    requires { ⌜ Sayable (decision .say) (lent chars attrs marks) (now reply) at ⌝ }
+    requires { ⌜ Sayable (decision .frame .edition) (decision .say) (lent chars attrs marks) (now reply) at ⌝ }
     ensures { λ r. ⌜ Applies (meant (now (attrs .entry)) decision)
         (lent (chars .entry) (attrs .entry) (marks .entry)) (now (reply .entry)) at
         r (lent (chars .exit) (attrs .exit) (marks .exit)) (now (reply .exit)) ⌝ }
 {
+    let decided = decision.frame;
+    let edition = decided.edition;
     let say = decision.say;
-    let next = say_any(say, chars, attrs, marks, reply, at);
+    let next = say_any(edition, say, chars, attrs, marks, reply, at);
     let edit = decision.edit;
-    let frame = change_any(decision.frame, edit, chars, attrs);
+    let frame = change_any(decided, edit, chars, attrs);
     let format = decision.format;
     format_attrs(format, attrs);
     mark(decision.clear, edit, marks);

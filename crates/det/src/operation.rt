@@ -181,10 +181,12 @@ fn take_meaning(
 {
     let meaning = key_of(code);
     let decision = press(session.frame, attrs, meaning);
+    let decided = decision.frame;
+    let edition = decided.edition;
     let say = decision.say;
-    let written = write_reply(say, chars, attrs, marks, reply, 0);
+    let written = write_reply(edition, say, chars, attrs, marks, reply, 0);
     let edit = decision.edit;
-    let frame = change_chars(decision.frame, edit, chars, attrs);
+    let frame = change_chars(decided, edit, chars, attrs);
     mark(decision.clear, edit, marks);
     Answer {
         session: with_frame(session, frame),

@@ -14,7 +14,8 @@ use Rattle.rules.specs.declared.Answer.{Answer}
 use Rattle.rules.specs.declared.Refusal.{Refusal}
 use Rattle.rules.specs.declared.Key.the-variants.{Meaningless}
 use Rattle.rules.specs.Session.{Screen, State, lineTakesKeys, freshFrame, state}
-use Rattle.rules.specs.Refusal.{numberOf, isTaken, verdict, sizeTests}
+use Rattle.rules.specs.Edition.{editionOf}
+use Rattle.rules.specs.Refusal.{numberOf, isTaken, verdict, openTests}
 use Rattle.rules.specs.Key.{keyOf}
 use Rattle.rules.specs.Pad.{takesKey}
 use Rattle.rules.specs.Operation.{Outcome, outcome, unless, hostRefusal, hostBytes, keyRefusal, oneKey, opened}
@@ -73,21 +74,21 @@ returns-none : {number taken written : ℕ} {session : List ℕ} {b : Screen} {r
 returns-none h = rw (h .0, h .1, h .2)
 
 -- open: no place for a session, or its answer told
-module _ (m n : ℕ) (session : List ℕ) (b : Screen) where
-  pub open-none : (length session ≡ sessionLength → ⊥) → result 255 session 0 0 b [] ≡ openCall m n session b
+module _ (m n named : ℕ) (session : List ℕ) (b : Screen) where
+  pub open-none : (length session ≡ sessionLength → ⊥) → result 255 session 0 0 b [] ≡ openCall m n named session b
   unfolding openCall provided
   open-none f = rw (ne-eqb (length session) sessionLength f)
 
-  opened-counts : let a = opened m n b .answer in (a .taken ≡ 0) × (a .written ≡ 0)
+  opened-counts : let a = opened m n named b .answer in (a .taken ≡ 0) × (a .written ≡ 0)
   unfolding opened unless
-  opened-counts = true-or-false (isTaken (verdict (sizeTests (freshFrame m n) b))) (λ t. rw t (refl, refl)) (λ f. rw f (refl, refl))
+  opened-counts = true-or-false (isTaken (verdict (openTests (freshFrame m n (editionOf named)) named b))) (λ t. rw t (refl, refl)) (λ f. rw f (refl, refl))
 
   pub open-done : {a : Answer} {number : ℕ} {session′ : List ℕ} {b′ : Screen} → length session ≡ sessionLength
-      → outcome a b′ [] ≡ opened m n b → number ≡ numberOf (a .refusal) → session′ ≡ encoded (a .session)
-      → result number session′ 0 0 b′ [] ≡ openCall m n session b
+      → outcome a b′ [] ≡ opened m n named b → number ≡ numberOf (a .refusal) → session′ ≡ encoded (a .session)
+      → result number session′ 0 0 b′ [] ≡ openCall m n named session b
   unfolding openCall provided
   open-done {a} t s p q =
-      let same : a ≡ opened m n b .answer = ap (λ (o : Outcome). o .answer) s in
+      let same : a ≡ opened m n named b .answer = ap (λ (o : Outcome). o .answer) s in
       rw (eq-eqb (length session) sessionLength t) (returns-told s (record {
         number-is = p;
         session-is = q;

@@ -43,8 +43,8 @@ provided true done refused = done
 provided false done refused = refused
 
 -- open wants a place for a session, whatever stands there
-unfoldable pub openCall : ℕ → ℕ → List ℕ → Screen → Result
-openCall m n session b = provided (eqb (length session) sessionLength) (told (opened m n b)) (noSession session b [])
+unfoldable pub openCall : ℕ → ℕ → ℕ → List ℕ → Screen → Result
+openCall m n named session b = provided (eqb (length session) sessionLength) (told (opened m n named b)) (noSession session b [])
 
 -- host bytes and a key want the bytes of a session
 unfoldable pub hostCall : List ℕ → List ℕ → Screen → List ℕ → Result

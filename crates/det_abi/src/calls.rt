@@ -58,23 +58,24 @@ fn key_byte(code: u32) -> u8
     if code < 256 { code as u8 } else { 255 }
 }
 
-// Open. The session's place is of a session's length, whatever stands there.
+// Open, in the edition of this number. The session's place is of a session's length, whatever stands there.
 #[no_mangle]
 pub extern "C" fn det_open(
     width: usize,
     height: usize,
+    edition: usize,
     chars: &mut [u8],
     attrs: &mut [u8],
     marks: &mut [u8],
     session: &mut [u8],
 ) -> u8
     ensures { λ r. ⌜ result r (now (session .exit)) 0 0 (lent (chars .exit) (attrs .exit) (marks .exit)) []
-        ≡ openCall width height (now (session .entry)) (lent (chars .entry) (attrs .entry) (marks .entry)) ⌝ }
+        ≡ openCall width height edition (now (session .entry)) (lent (chars .entry) (attrs .entry) (marks .entry)) ⌝ }
 {
     if session.len() != SESSION_LENGTH {
         return NO_SESSION;
     }
-    let answer = open(width, height, chars, attrs, marks);
+    let answer = open(width, height, edition, chars, attrs, marks);
     tell(answer, session)
 }
 

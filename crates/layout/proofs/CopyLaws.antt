@@ -4,7 +4,7 @@ use Rattle.layout.proofs.Kit.{length, take, drop, replicate, length-tak
 use Rattle.layout.proofs.Kit.{sets, sets-eq, length-sets, paste, take-length, tabulate, tabulated}
 use Rattle.layout.proofs.Kit.{Emitted, emitted-then, emitted-whole}
 use Rattle.rules.specs.declared.Session.{Session}
-use Rattle.layout.specs.Layout.{sessionLength, byteAt, bytesFrom, frameBytes, readerBytes, padBytes, mapsBytes, encoded, stored}
+use Rattle.layout.specs.Layout.{sessionLength, byteAt, bytesFrom, frameBytes, readerBytes, padBytes, restBytes, encoded, stored}
 use Rattle.layout.specs.Layout.{decoded, layouts}
 use Rattle.layout.proofs.LayoutLaws.{stored-there}
 
@@ -50,10 +50,10 @@ module _ (bytes : List ℕ) where
 pub pasted-all : (xs buf : List ℕ) (at : ℕ) → at + length xs ≤ length buf → paste buf at xs (length xs) ≡ sets buf at xs
 pasted-all xs buf at h = rw (take-length xs) (sym (sets-eq xs buf at h))
 
--- the frame, the reader, the PAD and the maps, one behind the other over as many bytes
+-- the frame, the reader, the PAD and the rest of the frame, one behind the other over as many bytes
 pub session-stored : (s : Session) {b b₁ b₂ b₃ b₄ : List ℕ} → length b ≡ sessionLength → Emitted b 0 (frameBytes (s .frame)) b₁ 8
     → Emitted b₁ 8 (readerBytes (s .reader)) b₂ 18 → Emitted b₂ 18 (padBytes (s .pad)) b₃ 206
-    → Emitted b₃ 206 (mapsBytes (s .frame .received)) b₄ 211 → b₄ ≡ stored s b
+    → Emitted b₃ 206 (restBytes (s .frame)) b₄ 212 → b₄ ≡ stored s b
 unfolding encoded
 session-stored s {b} l f r p m =
     let all = emitted-then f (emitted-then r (emitted-then p m)) in

@@ -11,11 +11,13 @@ use Rattle.pad.specs.declared.message.Stage.the-variants.{Code, Parameter, Valu
 use Rattle.pad.specs.Parameters.{parameters}
 use Rattle.pad.specs.Message.{messages}
 use Rattle.pad.specs.Line.{lines}
+use Rattle.rules.specs.declared.Edition.{Edition}
+use Rattle.rules.specs.declared.Edition.the-variants.{June, September}
 use Rattle.rules.specs.declared.Session.{Session}
 use Rattle.rules.specs.Session.{fresh}
-use Rattle.layout.specs.Layout.{sessionLength, version, bitOf, phaseBytes, stageAt, stageBytes, encoded, stored, byteAt, bytesFrom}
-use Rattle.layout.specs.Layout.{isFlag, hasFlags, isPhase, isStage, hasPlaces, isSession}
-use Rattle.layout.specs.Layout.{phaseOf, stageOf, mapsIn, frameIn, readerIn, padIn, decoded, layouts}
+use Rattle.layout.specs.Layout.{sessionLength, version, bitOf, phaseBytes, stageAt, stageBytes, editionNumber, encoded, stored}
+use Rattle.layout.specs.Layout.{byteAt, bytesFrom, isFlag, hasFlags, isPhase, isStage, hasPlaces, isSession}
+use Rattle.layout.specs.Layout.{phaseOf, stageOf, editionNumbered, mapsIn, frameIn, readerIn, padIn, decoded, layouts}
 
 -- n bytes are those that are read from them
 abbrev Spelled : List ℕ → ℕ → Type 0
@@ -56,6 +58,12 @@ stage-back Code = (refl, refl)
 stage-back (Parameter code) = (refl, refl)
 stage-back (Value code parameter) = (refl, refl)
 
+-- and the edition
+edition-back : (e : Edition) → (editionNumbered (editionNumber e) ≡ e) × (isFlag (editionNumber e) ≡ true)
+unfolding layouts
+edition-back June = (refl, refl)
+edition-back September = (refl, refl)
+
 -- what every Rattle value of the type has: its arrays have their lengths
 pub record Sized (s : Session) : Type 0 where
   pub held : length (s .reader .held .bytes) ≡ 6
@@ -76,7 +84,7 @@ module _ (s : Session) (z : Sized s) where
   copy : Spelled (s .pad .message .copy .held) 28
   copy = read-whole _ 28 (z .copy)
 
-  -- a session's bytes are 211
+  -- a session's bytes are 212
   pub encoded-length : length (encoded s) ≡ sessionLength
   unfolding encoded tabulate
   encoded-length = rw (held, values, line, copy)
@@ -90,21 +98,34 @@ module _ (s : Session) (z : Sized s) where
         held,
         values,
         line,
+        copy,
         flag-back (s .frame .det) .1,
         flag-back (s .frame .x3) .1,
         flag-back (s .frame .suppressed) .1,
         flag-back (s .reader .cr) .1,
         phase-back (s .reader .phase) .1,
         stage-back (s .pad .message .stage) .1,
+        edition-back (s .frame .edition) .1,
       )
 
   maps-back : mapsIn (encoded s) ≡ s .frame .received
   unfolding mapsIn encoded tabulate
   maps-back = rw (held, values, line, copy)
 
+  named-back : editionNumbered (byteAt (encoded s) 211) ≡ s .frame .edition
+  unfolding encoded tabulate
+  named-back = rw (held, values, line, copy) (edition-back (s .frame .edition) .0)
+
   frame-back : frameIn (encoded s) ≡ s .frame
   unfolding frameIn encoded
-  frame-back = rw (flag-back (s .frame .det) .0, flag-back (s .frame .x3) .0, flag-back (s .frame .suppressed) .0, maps-back)
+  frame-back =
+      rw (
+        named-back,
+        flag-back (s .frame .det) .0,
+        flag-back (s .frame .x3) .0,
+        flag-back (s .frame .suppressed) .0,
+        maps-back,
+      )
 
   reader-back : readerIn (encoded s) ≡ s .reader
   unfolding readerIn encoded tabulate
@@ -188,11 +209,16 @@ stage-kept n c p h =
     (λ t. rw (f, t, eqb-true n 1 t, eqb-true p 0 (rw (f, t) at h)))
     (λ g. rw (f, g, eqb-true n 2 (rw (f, g) at h))))
 
+-- and the edition
+edition-kept : (n : ℕ) → isFlag n ≡ true → editionNumber (editionNumbered n) ≡ n
+unfolding layouts
+edition-kept n e = eqb-true _ _ (up-to (λ k. eqb (editionNumber (editionNumbered k)) k) 1 n refl e)
+
 module _ (b : List ℕ) (h : isSession b ≡ true) where
   abbrev at : ℕ → ℕ
   at = byteAt b
 
-  -- bytes that are a session are 211
+  -- bytes that are a session are 212
   pub session-length : length b ≡ sessionLength
   unfolding isSession
   session-length = eqb-true _ _ (and-left (eqb (length b) sessionLength) _ h)
@@ -206,11 +232,13 @@ module _ (b : List ℕ) (h : isSession b ≡ true) where
   version-right = eqb-true _ _ (and-left (eqb (at 0) version) _ past-length)
 
   flags : (isFlag (at 5) ≡ true) × (isFlag (at 6) ≡ true) × (isFlag (at 7) ≡ true) × (isFlag (at 17) ≡ true)
+      × (isFlag (at 211) ≡ true)
   flags =
       let all = and-left (hasFlags b) _ (and-right (eqb (at 0) version) _ past-length) in
       let two = and-right (isFlag (at 5)) _ all in
       let three = and-right (isFlag (at 6)) _ two in
-      (and-left _ _ all, and-left _ _ two, and-left _ _ three, and-right (isFlag (at 7)) _ three)
+      let four = and-right (isFlag (at 7)) _ three in
+      (and-left _ _ all, and-left _ _ two, and-left _ _ three, and-left _ _ four, and-right (isFlag (at 17)) _ four)
 
   places : hasPlaces b ≡ true
   places = and-right (hasFlags b) _ (and-right (eqb (at 0) version) _ past-length)
@@ -229,18 +257,19 @@ module _ (b : List ℕ) (h : isSession b ≡ true) where
         number-kept (at 8) (at 9) phase,
         option-kept (at 8) (at 9) phase,
         stage-kept (at 175) (at 176) (at 177) stage,
+        edition-kept (at 211) (flags .4),
       )
-      (subst (λ (v : ℕ). v ∷ bytesFrom b 1 210 ≡ b) version-right (sym (read-whole b 211 session-length)))
+      (subst (λ (v : ℕ). v ∷ bytesFrom b 1 211 ≡ b) version-right (sym (read-whole b 212 session-length)))
 
 -- ---- what a caller keeps
 
 -- the session that an open returns, refused or not, has bytes that are one
-pub fresh-sized : (m n : ℕ) → Sized (fresh m n)
+pub fresh-sized : (m n : ℕ) (e : Edition) → Sized (fresh m n e)
 unfolding parameters messages lines
-fresh-sized m n = record { held = refl; values = refl; line = refl; copy = refl }
+fresh-sized m n e = record { held = refl; values = refl; line = refl; copy = refl }
 
-pub refused-open : isSession (encoded (fresh 0 0)) ≡ true
-refused-open = encoded-session (fresh 0 0) (fresh-sized 0 0)
+pub refused-open : isSession (encoded (fresh 0 0 September)) ≡ true
+refused-open = encoded-session (fresh 0 0 September) (fresh-sized 0 0 September)
 
 -- a place for a session holds one afterwards, and no other place changes
 module _ (s : Session) (b : List ℕ) where

@@ -1,6 +1,6 @@
--- A session as a byte string: 211 bytes that the caller keeps.
+-- A session as a byte string: 212 bytes that the caller keeps.
 --
---   0           the layout's version, 3
+--   0           the layout's version, 4
 --   1, 2        M, N
 --   3, 4        the cursor's x, y
 --   5, 6, 7     DET on, option 30 on, protection suppressed: 0 no, 1 yes
@@ -15,6 +15,7 @@
 --   176, 177    the message's code, 0 where it is next; the parameter that waits for its value, 0 where none does
 --   178 to 205  the message's copy of the 28 values
 --   206 to 210  the facility maps received, of any value: edit, erase, transmit, the two bytes of format
+--   211         the edition: 0 June's (RFC 731), 1 September's (RFC 732)
 use mathlib.Core.Bool.{Bool, true, false, _&&_, _||_}
 use mathlib.Core.List.{List, [], _∷_, _++_}
 use Prim.Native.Nat.{ℕ, _+_}
@@ -31,6 +32,8 @@ use Rattle.pad.specs.declared.message.Stage.the-variants.{Code, Parameter, Valu
 use Rattle.words.specs.Words.{if_then_else_, tabulate}
 use Rattle.screen.specs.Cells.{place}
 use Rattle.rules.specs.declared.Maps.{Maps}
+use Rattle.rules.specs.declared.Edition.{Edition}
+use Rattle.rules.specs.declared.Edition.the-variants.{June, September}
 use Rattle.rules.specs.declared.Frame.{Frame}
 use Rattle.rules.specs.declared.Reader.{Reader}
 use Rattle.rules.specs.declared.Pad.{Pad}
@@ -40,11 +43,11 @@ use Rattle.layout.specs.declared.number.PhaseBytes.{PhaseBytes}
 use Rattle.layout.specs.declared.number.StageBytes.{StageBytes}
 
 abbrev pub sessionLength : ℕ
-sessionLength = 211
+sessionLength = 212
 
--- The layouts before this one: 15 bytes and no version, then 206 bytes and version 2, with no maps.
+-- The layouts before this one: 15 bytes and no version; 206 bytes and version 2, with no maps; 211 bytes and version 3, with no edition.
 abbrev pub version : ℕ
-version = 3
+version = 4
 
 -- ---- from a session to its bytes
 
@@ -81,7 +84,11 @@ stageBytes Code = stageAt 0 0 0
 stageBytes (Parameter code) = stageAt 1 code 0
 stageBytes (Value code parameter) = stageAt 2 code parameter
 
--- 0 to 7: the frame, but for its maps
+unfoldable pub editionNumber : Edition → ℕ
+editionNumber June = 0
+editionNumber September = 1
+
+-- 0 to 7: the frame, but for its maps and its edition
 abbrev pub frameBytes : Frame → List ℕ
 frameBytes f =
     version ∷ f .width ∷ f .height ∷ f .cursor .x .0 ∷ f .cursor .y .0 ∷ bitOf (f .det) ∷ bitOf (f .x3) ∷ bitOf (f .suppressed) ∷ []
@@ -106,12 +113,14 @@ messageBytes m =
 abbrev pub padBytes : Pad → List ℕ
 padBytes p = p .values .held ++ (lineBytes (p .line) ++ messageBytes (p .message))
 
--- 206 to 210
-abbrev pub mapsBytes : Maps → List ℕ
-mapsBytes m = m .edit ∷ m .erase ∷ m .transmit ∷ m .format0 ∷ m .format1 ∷ []
+-- 206 to 211: the rest of the frame
+abbrev pub restBytes : Frame → List ℕ
+restBytes f =
+    let m = f .received in
+    m .edit ∷ m .erase ∷ m .transmit ∷ m .format0 ∷ m .format1 ∷ editionNumber (f .edition) ∷ []
 
 unfoldable pub encoded : Session → List ℕ
-encoded s = frameBytes (s .frame) ++ (readerBytes (s .reader) ++ (padBytes (s .pad) ++ mapsBytes (s .frame .received)))
+encoded s = frameBytes (s .frame) ++ (readerBytes (s .reader) ++ (padBytes (s .pad) ++ restBytes (s .frame)))
 
 -- what a place for a session then holds: one of another length is left as it is
 unfoldable pub stored : Session → List ℕ → List ℕ
@@ -126,14 +135,14 @@ byteAt bytes i = getD bytes i 0
 abbrev pub bytesFrom : List ℕ → ℕ → ℕ → List ℕ
 bytesFrom bytes from count = tabulate (λ k. byteAt bytes (from + k)) 0 count
 
--- the four flags are 0 or 1
+-- the four flags and the edition are 0 or 1
 abbrev pub isFlag : ℕ → Bool
 isFlag b = leb b 1
 
 abbrev pub hasFlags : List ℕ → Bool
 hasFlags bytes =
     let at = byteAt bytes in
-    isFlag (at 5) && (isFlag (at 6) && (isFlag (at 7) && isFlag (at 17)))
+    isFlag (at 5) && (isFlag (at 6) && (isFlag (at 7) && (isFlag (at 17) && isFlag (at 211))))
 
 -- the reader's place is one of the ten, and an option stands only where one is being read
 abbrev pub isPhase : ℕ → ℕ → Bool
@@ -169,6 +178,9 @@ phaseOf number option =
 unfoldable pub stageOf : ℕ → ℕ → ℕ → Stage
 stageOf number code parameter = if eqb number 0 then Code else if eqb number 1 then Parameter code else Value code parameter
 
+unfoldable pub editionNumbered : ℕ → Edition
+editionNumbered number = if eqb number 0 then June else September
+
 unfoldable pub mapsIn : List ℕ → Maps
 mapsIn bytes =
     let at = byteAt bytes in
@@ -180,6 +192,7 @@ frameIn bytes =
     record {
       width = at 1;
       height = at 2;
+      edition = editionNumbered (at 211);
       cursor = place (at 3) (at 4);
       det = eqb (at 5) 1;
       x3 = eqb (at 6) 1;
@@ -207,5 +220,6 @@ decoded bytes = session (frameIn bytes) (readerIn bytes) (padIn bytes)
 
 -- names all of the above: under `unfolding layouts` a proof computes with them
 unfoldable pub layouts : ℕ
-unfolding verbNumber phaseBytes stageBytes encoded stored isSession phaseOf stageOf mapsIn frameIn readerIn padIn decoded
+unfolding verbNumber phaseBytes stageBytes editionNumber encoded stored isSession phaseOf stageOf editionNumbered mapsIn frameIn readerIn
+    padIn decoded
 layouts = 0

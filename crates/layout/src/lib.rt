@@ -1,4 +1,4 @@
-// A session as a byte string: 211 bytes that the caller keeps. The table at the head of specs/Layout.antt says what stands where.
+// A session as a byte string: 212 bytes that the caller keeps. The table at the head of specs/Layout.antt says what stands where.
 // The three functions ask nothing of their caller.
 ghost use mathlib.Core.Path.{_≡_};
 ghost use Rattle.layout.specs.Layout.{isSession, decoded, stored};
@@ -15,14 +15,14 @@ use rules::Session;
 use valid::has_flags;
 use valid::has_places;
 use write::put_frame;
-use write::put_maps;
 use write::put_pad;
 use write::put_reader;
+use write::put_rest;
 
-pub const SESSION_LENGTH: usize = 211;
+pub const SESSION_LENGTH: usize = 212;
 
-// The first layout, of 15 bytes, had none; 2 had 206 bytes.
-pub(crate) const VERSION: u8 = 3;
+// The first layout, of 15 bytes, had none; 2 had 206 bytes, 3 had 211.
+pub(crate) const VERSION: u8 = 4;
 
 // Are the bytes those of a session?
 pub fn is_session(bytes: &[u8]) -> bool
@@ -61,5 +61,5 @@ pub fn encode(session: Session, bytes: &mut [u8])
     put_frame(session.frame, bytes);
     put_reader(session.reader, bytes);
     put_pad(session.pad, bytes);
-    put_maps(session.frame.received, bytes);
+    put_rest(session.frame, bytes);
 }

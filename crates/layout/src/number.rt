@@ -1,7 +1,8 @@
-// The reader's places and a message's stages as numbers, and back.
+// The reader's places, a message's stages and the editions as numbers, and back.
 ghost use mathlib.Core.Path.{_≡_};
-ghost use Rattle.layout.specs.Layout.{verbNumber, phaseBytes, phaseOf, stageBytes, stageOf};
+ghost use Rattle.layout.specs.Layout.{verbNumber, phaseBytes, phaseOf, stageBytes, stageOf, editionNumber, editionNumbered};
 use pad::message::Stage;
+use rules::Edition;
 use telnet::Phase;
 use telnet::Verb;
 
@@ -108,4 +109,23 @@ pub(crate) fn stage_of(number: u8, code: u8, parameter: u8) -> Stage
         1 => Stage::Parameter(code),
         _ => Stage::Value { code, parameter },
     }
+}
+
+pub(crate) fn edition_number(edition: Edition) -> u8
+    ensures { λ r. ⌜ r ≡ editionNumber edition ⌝ }
+{
+    match edition {
+        Edition::June => 0,
+        Edition::September => 1,
+    }
+}
+
+// Any number above 0 is taken for 1.
+pub(crate) fn edition_numbered(number: u8) -> Edition
+    ensures { λ r. ⌜ r ≡ editionNumbered number ⌝ }
+{
+    if number == 0 {
+        return Edition::June;
+    }
+    Edition::September
 }

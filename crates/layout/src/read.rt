@@ -5,6 +5,7 @@ ghost use lib.ListN.{length};
 ghost use Rattle.layout.specs.Layout.{sessionLength, bytesFrom, mapsIn, frameIn, readerIn, padIn, decoded};
 use crate::SESSION_LENGTH;
 use crate::copy::copy;
+use crate::number::edition_numbered;
 use crate::number::phase_of;
 use crate::number::stage_of;
 use pad::line::EditLine;
@@ -71,6 +72,7 @@ fn frame_in(bytes: &[u8]) -> Frame
     Frame {
         width: bytes[1],
         height: bytes[2],
+        edition: edition_numbered(bytes[211]),
         cursor: Place {
             x: Column(bytes[3]),
             y: Line(bytes[4]),

@@ -4,7 +4,7 @@ ghost use Prim.Native.Nat.{_≤_};
 ghost use lib.ListN.{length};
 ghost use Rattle.layout.specs.Layout.{sessionLength, hasFlags, isPhase, isStage, hasPlaces};
 
-// Is each flag 0 or 1?
+// Is each flag 0 or 1, and so the edition?
 pub(crate) fn has_flags(bytes: &[u8]) -> bool
     requires { ⌜ sessionLength ≤ length (now bytes) ⌝ }
     ensures { λ r. ⌜ r ≡ hasFlags (now (bytes .entry)) ⌝ }
@@ -18,7 +18,10 @@ pub(crate) fn has_flags(bytes: &[u8]) -> bool
     if 1 < bytes[7] {
         return false;
     }
-    bytes[17] <= 1
+    if 1 < bytes[17] {
+        return false;
+    }
+    bytes[211] <= 1
 }
 
 // Is it one of the ten places, with an option only where one is being read?

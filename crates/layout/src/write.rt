@@ -2,19 +2,19 @@
 ghost use mathlib.Core.Path.{_≡_};
 ghost use lib.ListN.{length};
 ghost use Rattle.words.specs.Stored.{Emitted};
-ghost use Rattle.layout.specs.Layout.{sessionLength, frameBytes, readerBytes, lineBytes, messageBytes, padBytes, mapsBytes};
+ghost use Rattle.layout.specs.Layout.{sessionLength, frameBytes, readerBytes, lineBytes, messageBytes, padBytes, restBytes};
 use crate::VERSION;
 use crate::copy::copy;
+use crate::number::edition_number;
 use crate::number::phase_bytes;
 use crate::number::stage_bytes;
 use pad::line::EditLine;
 use pad::message::Message;
 use rules::Frame;
-use rules::Maps;
 use rules::Pad;
 use rules::Reader;
 
-// The version and the frame, but for its maps.
+// The version and the frame, but for its maps and its edition.
 pub(crate) fn put_frame(frame: Frame, bytes: &mut [u8])
     requires { ⌜ length (now bytes) ≡ sessionLength ⌝ }
     ensures { λ _. ⌜ Emitted (now (bytes .entry)) 0 (frameBytes frame) (now (bytes .exit)) 8 ⌝ }
@@ -77,14 +77,17 @@ pub(crate) fn put_pad(pad: Pad, bytes: &mut [u8])
     put_message(pad.message, bytes);
 }
 
-// The facility maps received.
-pub(crate) fn put_maps(maps: Maps, bytes: &mut [u8])
+// The rest of the frame: the facility maps received, and the edition.
+pub(crate) fn put_rest(frame: Frame, bytes: &mut [u8])
     requires { ⌜ length (now bytes) ≡ sessionLength ⌝ }
-    ensures { λ _. ⌜ Emitted (now (bytes .entry)) 206 (mapsBytes maps) (now (bytes .exit)) 211 ⌝ }
+    ensures { λ _. ⌜ Emitted (now (bytes .entry)) 206 (restBytes frame) (now (bytes .exit)) 212 ⌝ }
 {
+    let maps = frame.received;
     bytes[206] = maps.edit;
     bytes[207] = maps.erase;
     bytes[208] = maps.transmit;
     bytes[209] = maps.format0;
     bytes[210] = maps.format1;
+    let edition = frame.edition;
+    bytes[211] = edition_number(edition);
 }

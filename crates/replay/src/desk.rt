@@ -51,7 +51,7 @@ fn copy(from: &[u8], to: &mut [u8], length: usize) {
 
 // Before the first order: as after an `open` that is refused, with empty buffers.
 pub(crate) fn fresh(chars: &mut [u8], attrs: &mut [u8], marks: &mut [u8]) -> Desk {
-    let answer = admit::open::open(0, 0, chars, attrs, marks);
+    let answer = admit::open::open(0, 0, 0, chars, attrs, marks);
     Desk {
         answer: answer,
         chars: 0,
@@ -71,7 +71,11 @@ fn made(
     reply: &mut [u8],
 ) -> Answer {
     match call {
-        Call::Open { width, height } => admit::open::open(width, height, chars, attrs, marks),
+        Call::Open {
+            width,
+            height,
+            edition,
+        } => admit::open::open(width, height, edition, chars, attrs, marks),
         Call::Host => host_bytes(session, input, chars, attrs, marks, reply),
         Call::Key(code) => key(session, code, chars, attrs, marks, reply),
     }
@@ -294,11 +298,13 @@ pub(crate) fn obey(
             chars: c,
             attrs: a,
             marks: m,
+            edition,
         } => {
             let lent = lend(desk, chars, c, attrs, a, marks, m);
             let opening = Call::Open {
                 width: width,
                 height: height,
+                edition: edition,
             };
             called(lent, opening, bytes, 0, chars, attrs, marks, reply, 0)
         }

@@ -30,7 +30,11 @@ pub enum Setting {
 
 // A call with lent buffers.
 pub enum Call {
-    Open { width: usize, height: usize },
+    Open {
+        width: usize,
+        height: usize,
+        edition: usize,
+    },
     Host,
     Key(u8),
 }
@@ -42,6 +46,7 @@ pub enum Order {
         chars: usize,
         attrs: usize,
         marks: usize,
+        edition: usize,
     },
     // so many bytes replace the characters, the attributes or the marks
     Chars(usize),
@@ -197,14 +202,17 @@ fn open(block: &mut [u8], source: Source) -> Parsed {
     let width = field::number(block, source, SIZE);
     let height = field::number(block, width.source, SIZE);
     let lengths = buffers(block, height.source);
+    let edition = field::number(block, lengths.source, SIZE);
+    let after = edition.source;
     let order = Order::Open {
         width: width.value,
         height: height.value,
         chars: lengths.chars,
         attrs: lengths.attrs,
         marks: lengths.marks,
+        edition: edition.value,
     };
-    closed(lengths.source, order)
+    closed(after, order)
 }
 
 fn chars(block: &mut [u8], source: Source, bytes: &mut [u8]) -> Parsed {

@@ -8,11 +8,13 @@ use crate::number::least;
 use crate::order::Order;
 use crate::sink;
 use crate::sink::Sink;
+use admit::edition::name_of;
 use admit::number::number_of;
-use command::facility::OWN;
+use command::facility::own_maps;
 use pad::line::EditLine;
 use pad::parameter::Values;
 use rules::Answer;
+use rules::Edition;
 use rules::Frame;
 use rules::Maps;
 use rules::Reader;
@@ -83,23 +85,26 @@ fn local(out: &mut [u8], sink: Sink, desk: Desk) -> Sink {
 }
 
 // What is agreed: the bits of the maps received that the terminal's own have too.
-fn agreed(out: &mut [u8], sink: Sink, received: Maps) -> Sink {
+fn agreed(out: &mut [u8], sink: Sink, edition: Edition, received: Maps) -> Sink {
+    let own = own_maps(edition);
     let maps = [
-        received.edit & OWN.edit,
-        received.erase & OWN.erase,
-        received.transmit & OWN.transmit,
-        received.format0 & OWN.format0,
-        received.format1 & OWN.format1,
+        received.edit & own.edit,
+        received.erase & own.erase,
+        received.transmit & own.transmit,
+        received.format0 & own.format0,
+        received.format1 & own.format1,
     ];
     bytes(out, sink, &maps, 5)
 }
 
-// The line's end: the PAD, what is agreed, and the marks.
+// The line's end: the PAD, what is agreed, the marks, and the edition.
 fn ending(out: &mut [u8], sink: Sink, desk: Desk, marks: &[u8]) -> Sink {
     let typed = local(out, sink, desk);
     let frame = frame_of(desk);
-    let mapped = agreed(out, typed, frame.received);
-    let whole = bytes(out, mapped, marks, desk.marks);
+    let edition = frame.edition;
+    let mapped = agreed(out, typed, edition, frame.received);
+    let marked = bytes(out, mapped, marks, desk.marks);
+    let whole = number(out, marked, name_of(edition));
     sink::put(out, whole, b'\n')
 }
 
@@ -208,6 +213,7 @@ pub(crate) fn line(
             chars: _,
             attrs: _,
             marks: _,
+            edition: _,
         } => answer(out, sink, desk, chars, attrs, marks, reply),
         Order::Call {
             call: _,

@@ -14,17 +14,17 @@ use Rattle.reply.specs.Written.{Wrote}
 use Rattle.reply.specs.Pieces.{markedPieces, modifiedPieces}
 use Rattle.reply.proofs.WriteLaws.{Writing, writing-start, writing-more, writing-all}
 
-module _ (width : ℕ) (chars attrs marks : List ℕ) where
+module _ (code width : ℕ) (chars attrs marks : List ℕ) where
   -- the pieces of the fields from a cell on
   abbrev from : ℕ → List (List ℕ)
-  from cell = modifiedPieces width chars attrs marks cell (length attrs - cell)
+  from cell = modifiedPieces code width chars attrs marks cell (length attrs - cell)
 
   one-less : (cell : ℕ) → cell < length attrs → length attrs - cell ≡ suc (length attrs - (cell + 1))
   one-less cell h = omega arith
 
   -- a field opens at the cell, or none does
   from-open : (cell : ℕ) → cell < length attrs → opensAt attrs cell ≡ true
-      → from cell ≡ markedPieces width chars marks cell (fieldEnd attrs cell) ++ from (cell + 1)
+      → from cell ≡ markedPieces code width chars marks cell (fieldEnd attrs cell) ++ from (cell + 1)
   unfolding modifiedPieces
   from-open cell h o = rw (one-less cell h, modifiedPieces, o, add-one)
 
@@ -56,7 +56,7 @@ module _ (width : ℕ) (chars attrs marks : List ℕ) where
 
   -- and from a field to the next
   from-field : (cell : ℕ) → cell < length attrs → opensAt attrs cell ≡ true → {end next : ℕ} → end ≡ fieldEnd attrs cell
-      → next ≡ firstFrom (opensAt attrs) attrs end (length attrs) → from cell ≡ markedPieces width chars marks cell end ++ from next
+      → next ≡ firstFrom (opensAt attrs) attrs end (length attrs) → from cell ≡ markedPieces code width chars marks cell end ++ from next
   from-field cell h o {end} e f =
       let low = end-gt attrs cell h in
       let high = end-le attrs cell in
@@ -67,27 +67,27 @@ module _ (width : ℕ) (chars attrs marks : List ℕ) where
 
   -- of the fields, those that open before the cell are written, and the next opens at the cell or none does
   pub record Modifying (buf : List ℕ) (at : ℕ) (buf₁ : List ℕ) (at₁ cell : ℕ) : Type 0 where
-    pub writing : Writing buf at (modifiedPieces width chars attrs marks 0 (length attrs)) buf₁ at₁ (from cell)
+    pub writing : Writing buf at (modifiedPieces code width chars attrs marks 0 (length attrs)) buf₁ at₁ (from cell)
     pub opens : cell < length attrs → opensAt attrs cell ≡ true
 
   opens-next : (cell : ℕ) {next : ℕ} → next ≡ firstFrom (opensAt attrs) attrs cell (length attrs) → next < length attrs → opensAt attrs next ≡ true
   opens-next cell e l = rw e (first-passes (opensAt attrs) (length attrs) cell (length attrs - cell) (rw (← e) l))
 
-module _ {width : ℕ} {chars attrs marks buf : List ℕ} {at : ℕ} where
-  pub modifying-start : {cell : ℕ} → cell ≡ firstFrom (opensAt attrs) attrs 0 (length attrs) → Modifying width chars attrs marks buf at buf at cell
+module _ {code width : ℕ} {chars attrs marks buf : List ℕ} {at : ℕ} where
+  pub modifying-start : {cell : ℕ} → cell ≡ firstFrom (opensAt attrs) attrs 0 (length attrs) → Modifying code width chars attrs marks buf at buf at cell
   modifying-start e = record {
-    writing = rw (← from-next width chars attrs marks 0 (omega arith) e, sub-zero) writing-start;
-    opens = opens-next width chars attrs marks 0 e;
+    writing = rw (← from-next code width chars attrs marks 0 (omega arith) e, sub-zero) writing-start;
+    opens = opens-next code width chars attrs marks 0 e;
   }
 
-  module _ {buf₁ : List ℕ} {at₁ cell : ℕ} (m : Modifying width chars attrs marks buf at buf₁ at₁ cell) where
+  module _ {buf₁ : List ℕ} {at₁ cell : ℕ} (m : Modifying code width chars attrs marks buf at buf₁ at₁ cell) where
     pub modifying-more : cell < length attrs → {end next : ℕ} {buf₂ : List ℕ} {at₂ : ℕ} → end ≡ fieldEnd attrs cell
-        → Wrote buf₁ at₁ (markedPieces width chars marks cell end) buf₂ at₂ → next ≡ firstFrom (opensAt attrs) attrs end (length attrs)
-        → Modifying width chars attrs marks buf at buf₂ at₂ next
+        → Wrote buf₁ at₁ (markedPieces code width chars marks cell end) buf₂ at₂ → next ≡ firstFrom (opensAt attrs) attrs end (length attrs)
+        → Modifying code width chars attrs marks buf at buf₂ at₂ next
     modifying-more h {end} e w f = record {
-      writing = writing-more (m .writing) (from-field width chars attrs marks cell h (m .opens h) e f) w;
-      opens = opens-next width chars attrs marks end f;
+      writing = writing-more (m .writing) (from-field code width chars attrs marks cell h (m .opens h) e f) w;
+      opens = opens-next code width chars attrs marks end f;
     }
 
-    pub modifying-all : length attrs ≤ cell → Wrote buf at (modifiedPieces width chars attrs marks 0 (length attrs)) buf₁ at₁
-    modifying-all h = writing-all (m .writing) (from-end width chars attrs marks cell h)
+    pub modifying-all : length attrs ≤ cell → Wrote buf at (modifiedPieces code width chars attrs marks 0 (length attrs)) buf₁ at₁
+    modifying-all h = writing-all (m .writing) (from-end code width chars attrs marks cell h)

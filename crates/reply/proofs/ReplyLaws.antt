@@ -21,7 +21,9 @@ use Rattle.words.proofs.Laws.{true-or-false}
 use Rattle.words.proofs.StoredLaws.{sets-append}
 use Rattle.screen.proofs.CellLaws.{place-whole}
 use Rattle.screen.proofs.FieldLaws.{end-gt, end-le}
+use Rattle.rules.specs.declared.Edition.{Edition}
 use Rattle.rules.specs.Session.{Screen}
+use Rattle.rules.specs.Edition.{codeFor}
 use Rattle.rules.specs.Effect.{spelled, spelledAll}
 use Rattle.rules.specs.Subcommand.{prefaceBytes, fieldTexts, withoutFirst, modifiedTexts}
 use Rattle.decide.specs.declared.decision.Say.{Say}
@@ -81,23 +83,24 @@ message-alone : (payload : List ℕ) → joined (messagePieces detOption payload
 message-alone payload = ap joined (sym (append-nil (messagePieces detOption payload))) ∙ det-message payload []
 
 -- a text behind a preface
-joined-prefaced : (p : Place) (t : List ℕ) (ps : List (List ℕ)) → joined ((prefacePieces p ++ (t ∷ [])) ++ ps) ≡ (prefaceBytes p ++ t) ++ joined ps
-joined-prefaced p t ps =
-    ap joined (append-assoc (prefacePieces p) (t ∷ []) ps)
-    ∙ det-message (dataTransmit ∷ p .x .0 ∷ p .y .0 ∷ []) (t ∷ ps)
-    ∙ sym (append-assoc (prefaceBytes p) t (joined ps))
+joined-prefaced : (e : Edition) (p : Place) (t : List ℕ) (ps : List (List ℕ))
+    → joined ((prefacePieces (codeFor e dataTransmit) p ++ (t ∷ [])) ++ ps) ≡ (prefaceBytes e p ++ t) ++ joined ps
+joined-prefaced e p t ps =
+    ap joined (append-assoc (prefacePieces (codeFor e dataTransmit) p) (t ∷ []) ps)
+    ∙ det-message (codeFor e dataTransmit ∷ p .x .0 ∷ p .y .0 ∷ []) (t ∷ ps)
+    ∙ sym (append-assoc (prefaceBytes e p) t (joined ps))
 
 lies-true : {from end : ℕ} (chars : List ℕ) → from ≤ end → end ≤ length chars → lies from end chars ≡ true
 lies-true {from} {end} chars a b = rw (le-leb from end a, le-leb end (length chars) b)
 
-module _ (b : Screen) (long : length (b .chars) ≡ length (b .attrs)) where
+module _ (e : Edition) (b : Screen) (long : length (b .chars) ≡ length (b .attrs)) where
   -- the text of a field
   field-lies : (i : ℕ) → i < length (b .attrs) → lies i (fieldEnd (b .attrs) i) (b .chars) ≡ true
   field-lies i h = lies-true {from = i} (b .chars) (omega (arith, end-gt (b .attrs) i h)) (omega (arith, end-le (b .attrs) i))
 
   joined-fields : (first : Bool) (i n : ℕ) → i + n ≡ length (b .attrs)
-      → joined (fieldPieces (b .chars) (b .attrs) first i n)
-      ≡ spelledAll b (if first then withoutFirst (fieldTexts (b .attrs) i n) else fieldTexts (b .attrs) i n)
+      → joined (fieldPieces (codeFor e fieldSeparator) (b .chars) (b .attrs) first i n)
+      ≡ spelledAll b (if first then withoutFirst (fieldTexts e (b .attrs) i n) else fieldTexts e (b .attrs) i n)
   unfolding fieldPieces fieldTexts spelledAll spelled
   joined-fields first i zero h = true-or-false first (λ t. rw t) (λ t. rw t)
   joined-fields first i (suc n) h =
@@ -106,12 +109,12 @@ module _ (b : Screen) (long : length (b .chars) ≡ length (b .attrs)) where
       (λ o.
       rw (o, field-lies i (omega arith))
       (true-or-false first (λ t. rw (t, joined-fields false (suc i) n within))
-      (λ t. rw (t, det-message (fieldSeparator ∷ []) _, joined-fields false (suc i) n within))))
+      (λ t. rw (t, det-message (codeFor e fieldSeparator ∷ []) _, joined-fields false (suc i) n within))))
       (λ o. rw o (joined-fields first (suc i) n within))
 
   -- 27: the place of every cell has a line that a byte can number
   joined-modified : (width : ℕ) → length (b .attrs) ≤ 256 * width → (i n : ℕ) → i + n ≡ length (b .attrs)
-      → joined (modifiedPieces width (b .chars) (b .attrs) (b .marks) i n) ≡ spelledAll b (modifiedTexts width (b .attrs) i n)
+      → joined (modifiedPieces (codeFor e dataTransmit) width (b .chars) (b .attrs) (b .marks) i n) ≡ spelledAll b (modifiedTexts e width (b .attrs) i n)
   unfolding modifiedPieces modifiedTexts spelledAll spelled
   joined-modified width numbered i zero h = refl
   joined-modified width numbered i (suc n) h =
@@ -122,33 +125,33 @@ module _ (b : Screen) (long : length (b .chars) ≡ length (b .attrs)) where
       (true-or-false (someMarked (b .marks) i (fieldEnd (b .attrs) i))
       (λ m.
       rw (m, place-whole width 256 i (omega arith) (omega arith), field-lies i (omega arith))
-      (joined-prefaced (placeOf width i) (textOf i (fieldEnd (b .attrs) i) (b .chars)) _ ∙ rw rest))
+      (joined-prefaced e (placeOf width i) (textOf i (fieldEnd (b .attrs) i) (b .chars)) _ ∙ rw rest))
       (λ m. rw (m, rest))))
       (λ o. rw (o, rest))
 
 -- what is said, where it can be said
-joined-say : (b : Screen) (say : Say) → Sendable (b .attrs) say → length (b .chars) ≡ length (b .attrs)
-    → joined (sayPieces (b .chars) (b .attrs) (b .marks) say) ≡ spelledAll b (partsOf (b .attrs) say)
+joined-say : (e : Edition) (b : Screen) (say : Say) → Sendable (b .attrs) say → length (b .chars) ≡ length (b .attrs)
+    → joined (sayPieces e (b .chars) (b .attrs) (b .marks) say) ≡ spelledAll b (partsOf e (b .attrs) say)
 unfolding spelledAll spelled
-joined-say b Silent s long = refl
-joined-say b (Negotiation verb option) s long = refl
-joined-say b (Two code x) s long = message-alone (code ∷ x ∷ [])
-joined-say b (Three code x y) s long = message-alone (code ∷ x ∷ y ∷ [])
-joined-say b (Preface p) s long = message-alone (dataTransmit ∷ p .x .0 ∷ p .y .0 ∷ [])
-joined-say b (Text p from end) s long =
-    det-message (dataTransmit ∷ p .x .0 ∷ p .y .0 ∷ []) (textPiece from end (b .chars) ∷ [])
+joined-say e b Silent s long = refl
+joined-say e b (Negotiation verb option) s long = refl
+joined-say e b (Two code x) s long = message-alone (code ∷ x ∷ [])
+joined-say e b (Three code x y) s long = message-alone (code ∷ x ∷ y ∷ [])
+joined-say e b (Preface p) s long = message-alone (codeFor e dataTransmit ∷ p .x .0 ∷ p .y .0 ∷ [])
+joined-say e b (Text p from end) s long =
+    det-message (codeFor e dataTransmit ∷ p .x .0 ∷ p .y .0 ∷ []) (textPiece from end (b .chars) ∷ [])
     ∙ rw (lies-true {from = from} {end = end} (b .chars) (s .0) (omega (arith, s .1, long)))
-joined-say b (Fields p) s long =
-    det-message (dataTransmit ∷ p .x .0 ∷ p .y .0 ∷ []) (fieldPieces (b .chars) (b .attrs) true 0 (length (b .attrs)))
-    ∙ rw (joined-fields b long true 0 (length (b .attrs)) (omega arith))
-joined-say b (Modified width) s long = joined-modified b long width s 0 (length (b .attrs)) (omega arith)
+joined-say e b (Fields p) s long =
+    det-message (codeFor e dataTransmit ∷ p .x .0 ∷ p .y .0 ∷ []) (fieldPieces (codeFor e fieldSeparator) (b .chars) (b .attrs) true 0 (length (b .attrs)))
+    ∙ rw (joined-fields e b long true 0 (length (b .attrs)) (omega arith))
+joined-say e b (Modified width) s long = joined-modified e b long width s 0 (length (b .attrs)) (omega arith)
 
-pub said : {say : Say} {b : Screen} {reply : List ℕ} {at : ℕ} {reply′ : List ℕ} {at′ : ℕ} → Sayable say b reply at
-    → Wrote reply at (sayPieces (b .chars) (b .attrs) (b .marks) say) reply′ at′
-    → Emitted reply at (spelledAll b (partsOf (b .attrs) say)) reply′ at′
-said {say} {b} s w =
-    let e = joined-say b say (s .sendable) (s .long) in
-    rw e at (wrote-emitted (sayPieces (b .chars) (b .attrs) (b .marks) say) (rw e (s .room)) w)
+pub said : {e : Edition} {say : Say} {b : Screen} {reply : List ℕ} {at : ℕ} {reply′ : List ℕ} {at′ : ℕ} → Sayable e say b reply at
+    → Wrote reply at (sayPieces e (b .chars) (b .attrs) (b .marks) say) reply′ at′
+    → Emitted reply at (spelledAll b (partsOf e (b .attrs) say)) reply′ at′
+said {e} {say} {b} s w =
+    let same = joined-say e b say (s .sendable) (s .long) in
+    rw same at (wrote-emitted (sayPieces e (b .chars) (b .attrs) (b .marks) say) (rw same (s .room)) w)
 
 -- RESPONSE-IS, where there is room for it
 pub responded : (payload : List ℕ) {reply : List ℕ} {at : ℕ} {reply′ : List ℕ} {at′ : ℕ} → Room reply at (subnegotiation x3Option payload)

@@ -126,39 +126,39 @@ copied-whole {bytes} c = rw (whole-piece bytes) at (copied-piece c)
 -- ---- fields
 
 -- of the fields, those that open before the cell are written
-pub record WritingFields (buf : List ℕ) (at : ℕ) (chars attrs buf₁ : List ℕ) (at₁ : ℕ) (first : Bool) (cell : ℕ) : Type 0 where
-  pub writing : Writing buf at (fieldPieces chars attrs true 0 (length attrs)) buf₁ at₁ (fieldPieces chars attrs first cell (length attrs - cell))
+pub record WritingFields (code : ℕ) (buf : List ℕ) (at : ℕ) (chars attrs buf₁ : List ℕ) (at₁ : ℕ) (first : Bool) (cell : ℕ) : Type 0 where
+  pub writing : Writing buf at (fieldPieces code chars attrs true 0 (length attrs)) buf₁ at₁ (fieldPieces code chars attrs first cell (length attrs - cell))
 
-pub fields-start : {buf : List ℕ} {at : ℕ} {chars attrs : List ℕ} → WritingFields buf at chars attrs buf at true 0
+pub fields-start : {code : ℕ} {buf : List ℕ} {at : ℕ} {chars attrs : List ℕ} → WritingFields code buf at chars attrs buf at true 0
 fields-start {attrs = attrs} = record { writing = rw (sub-zero (length attrs)) writing-start }
 
-module _ {buf : List ℕ} {at : ℕ} {chars attrs buf₁ : List ℕ} {at₁ : ℕ} {first : Bool} {cell : ℕ} (s : WritingFields buf at chars attrs buf₁ at₁ first cell) where
+module _ {code : ℕ} {buf : List ℕ} {at : ℕ} {chars attrs buf₁ : List ℕ} {at₁ : ℕ} {first : Bool} {cell : ℕ} (s : WritingFields code buf at chars attrs buf₁ at₁ first cell) where
   module _ (within : cell < length attrs) where
     next : length attrs - cell ≡ suc (length attrs - (cell + 1))
     next = omega arith
 
     pub fields-more : {buf₂ : List ℕ} {at₂ : ℕ} → opensAt attrs cell ≡ true
-        → Wrote buf₁ at₁ (separatorPieces first ++ (textPiece cell (fieldEnd attrs cell) chars ∷ [])) buf₂ at₂
-        → WritingFields buf at chars attrs buf₂ at₂ false (cell + 1)
+        → Wrote buf₁ at₁ (separatorPieces code first ++ (textPiece cell (fieldEnd attrs cell) chars ∷ [])) buf₂ at₂
+        → WritingFields code buf at chars attrs buf₂ at₂ false (cell + 1)
     unfolding fieldPieces
     fields-more opens p =
-        let rest = fieldPieces chars attrs false (cell + 1) (length attrs - (cell + 1)) in
-        let split : fieldPieces chars attrs first cell (length attrs - cell) ≡ (separatorPieces first ++ (textPiece cell (fieldEnd attrs cell) chars ∷ [])) ++ rest =
+        let rest = fieldPieces code chars attrs false (cell + 1) (length attrs - (cell + 1)) in
+        let split : fieldPieces code chars attrs first cell (length attrs - cell) ≡ (separatorPieces code first ++ (textPiece cell (fieldEnd attrs cell) chars ∷ [])) ++ rest =
         rw (next, fieldPieces, opens, add-one, append-assoc) in
         record { writing = writing-more (s .writing) split p }
 
-    pub fields-skip : opensAt attrs cell ≡ false → WritingFields buf at chars attrs buf₁ at₁ first (cell + 1)
+    pub fields-skip : opensAt attrs cell ≡ false → WritingFields code buf at chars attrs buf₁ at₁ first (cell + 1)
     unfolding fieldPieces
     fields-skip closed = record { writing = rw add-one (rw (next, fieldPieces, closed, add-one) at (s .writing)) }
 
-  pub fields-all : length attrs ≤ cell → Wrote buf at (fieldPieces chars attrs true 0 (length attrs)) buf₁ at₁
+  pub fields-all : length attrs ≤ cell → Wrote buf at (fieldPieces code chars attrs true 0 (length attrs)) buf₁ at₁
   unfolding fieldPieces
   fields-all h = let e : length attrs - cell ≡ 0 = omega arith in writing-all (s .writing) (rw (e, fieldPieces))
 
 -- n cells at which no field opens
-fields-skips : {buf : List ℕ} {at : ℕ} {chars attrs buf₁ : List ℕ} {at₁ : ℕ} {first : Bool} {cell : ℕ} (n : ℕ)
-    → WritingFields buf at chars attrs buf₁ at₁ first cell → cell + n ≤ length attrs
-    → ((k : ℕ) → cell ≤ k → k < cell + n → opensAt attrs k ≡ false) → WritingFields buf at chars attrs buf₁ at₁ first (cell + n)
+fields-skips : {code : ℕ} {buf : List ℕ} {at : ℕ} {chars attrs buf₁ : List ℕ} {at₁ : ℕ} {first : Bool} {cell : ℕ} (n : ℕ)
+    → WritingFields code buf at chars attrs buf₁ at₁ first cell → cell + n ≤ length attrs
+    → ((k : ℕ) → cell ≤ k → k < cell + n → opensAt attrs k ≡ false) → WritingFields code buf at chars attrs buf₁ at₁ first (cell + n)
 fields-skips zero s h p = rw add-zero s
 fields-skips {cell = cell} (suc n) s h p =
     let e : cell + suc n ≡ cell + n + 1 = omega arith in
@@ -166,13 +166,13 @@ fields-skips {cell = cell} (suc n) s h p =
     rw e (fields-skip before (omega arith) (p (cell + n) (omega arith) (omega arith)))
 
 -- the same, where the next field opens at the cell or none does
-pub record WritingTo (buf : List ℕ) (at : ℕ) (chars attrs buf₁ : List ℕ) (at₁ : ℕ) (first : Bool) (cell : ℕ) : Type 0 where
-  pub fields : WritingFields buf at chars attrs buf₁ at₁ first cell
+pub record WritingTo (code : ℕ) (buf : List ℕ) (at : ℕ) (chars attrs buf₁ : List ℕ) (at₁ : ℕ) (first : Bool) (cell : ℕ) : Type 0 where
+  pub fields : WritingFields code buf at chars attrs buf₁ at₁ first cell
   pub opens : cell < length attrs → opensAt attrs cell ≡ true
 
-module _ {buf : List ℕ} {at : ℕ} {chars attrs buf₁ : List ℕ} {at₁ : ℕ} {first : Bool} {cell : ℕ} where
-  pub to-next : WritingFields buf at chars attrs buf₁ at₁ first cell → cell ≤ length attrs
-      → {next : ℕ} → next ≡ firstFrom (opensAt attrs) attrs cell (length attrs) → WritingTo buf at chars attrs buf₁ at₁ first next
+module _ {code : ℕ} {buf : List ℕ} {at : ℕ} {chars attrs buf₁ : List ℕ} {at₁ : ℕ} {first : Bool} {cell : ℕ} where
+  pub to-next : WritingFields code buf at chars attrs buf₁ at₁ first cell → cell ≤ length attrs
+      → {next : ℕ} → next ≡ firstFrom (opensAt attrs) attrs cell (length attrs) → WritingTo code buf at chars attrs buf₁ at₁ first next
   to-next s h {next} e =
       let n = length attrs in
       let low : cell ≤ next = rw e (first-above (opensAt attrs) n cell (n - cell) cell (omega arith) h) in
@@ -192,11 +192,11 @@ to-further attrs {cell} {end} {next} h e f =
     let on : end ≤ next = rw f (first-above (opensAt attrs) n end (n - end) end (omega arith) (omega (arith, e, end-le attrs cell))) in
     omega (arith, on, e, end-gt attrs cell h)
 
-module _ {buf : List ℕ} {at : ℕ} {chars attrs buf₁ : List ℕ} {at₁ : ℕ} {first : Bool} {cell : ℕ} where
+module _ {code : ℕ} {buf : List ℕ} {at : ℕ} {chars attrs buf₁ : List ℕ} {at₁ : ℕ} {first : Bool} {cell : ℕ} where
   -- the field is written, and the scan goes on from its end
-  pub to-more : WritingTo buf at chars attrs buf₁ at₁ first cell → cell < length attrs → {end next : ℕ} {buf₂ : List ℕ} {at₂ : ℕ}
-      → end ≡ fieldEnd attrs cell → Wrote buf₁ at₁ (separatorPieces first ++ (textPiece cell end chars ∷ [])) buf₂ at₂
-      → next ≡ firstFrom (opensAt attrs) attrs end (length attrs) → WritingTo buf at chars attrs buf₂ at₂ false next
+  pub to-more : WritingTo code buf at chars attrs buf₁ at₁ first cell → cell < length attrs → {end next : ℕ} {buf₂ : List ℕ} {at₂ : ℕ}
+      → end ≡ fieldEnd attrs cell → Wrote buf₁ at₁ (separatorPieces code first ++ (textPiece cell end chars ∷ [])) buf₂ at₂
+      → next ≡ firstFrom (opensAt attrs) attrs end (length attrs) → WritingTo code buf at chars attrs buf₂ at₂ false next
   to-more s h {end} e w f =
       let low = end-gt attrs cell h in
       let high = end-le attrs cell in

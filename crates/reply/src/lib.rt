@@ -9,7 +9,9 @@ use crate::transmission::put_form;
 use crate::transmission::put_preface;
 use crate::transmission::put_text;
 use command::number::DET;
+use command::sent;
 use decide::decision::Say;
+use rules::Edition;
 
 mod bytes;
 mod field;
@@ -19,8 +21,9 @@ pub mod response;
 mod single;
 mod transmission;
 
-// What is said, written from the characters and the marks as they are.
+// What is said, with the codes of an edition, written from the characters and the marks as they are.
 pub fn write_reply(
+    edition: Edition,
     say: Say,
     chars: &[u8],
     attrs: &[u8],
@@ -29,16 +32,25 @@ pub fn write_reply(
     at: usize,
 ) -> usize
     ensures { λ r. ⌜ Wrote (now (reply .entry)) at
-        (sayPieces (now (chars .entry)) (now (attrs .entry)) (now (marks .entry)) say) (now (reply .exit)) r ⌝ }
+        (sayPieces edition (now (chars .entry)) (now (attrs .entry)) (now (marks .entry)) say) (now (reply .exit)) r ⌝ }
 {
     match say {
         Say::Silent => at,
         Say::Negotiation { verb, option } => put_negotiation(reply, at, verb, option),
         Say::Two { code, a } => put_message(reply, at, DET, &[code, a]),
         Say::Three { code, a, b } => put_message(reply, at, DET, &[code, a, b]),
-        Say::Preface(place) => put_preface(reply, at, place),
-        Say::Text { place, from, end } => put_text(chars, reply, at, place, from, end),
-        Say::Fields(place) => put_form(chars, attrs, reply, at, place),
-        Say::Modified { width } => put_modified(chars, attrs, marks, reply, at, width),
+        Say::Preface(place) => {
+            let code = sent::data_transmit(edition);
+            put_preface(reply, at, code, place)
+        }
+        Say::Text { place, from, end } => {
+            let code = sent::data_transmit(edition);
+            put_text(chars, reply, at, code, place, from, end)
+        }
+        Say::Fields(place) => put_form(edition, chars, attrs, reply, at, place),
+        Say::Modified { width } => {
+            let code = sent::data_transmit(edition);
+            put_modified(chars, attrs, marks, reply, at, code, width)
+        }
     }
 }

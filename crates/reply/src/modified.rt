@@ -13,17 +13,18 @@ fn put_marked(
     chars: &[u8],
     marks: &[u8],
     reply: &mut [u8],
+    code: u8,
     width: u8,
     cell: usize,
     end: usize,
     at: usize,
 ) -> usize
     ensures { λ r. ⌜ Wrote (now (reply .entry)) at
-        (markedPieces width (now (chars .entry)) (now (marks .entry)) cell end) (now (reply .exit)) r ⌝ }
+        (markedPieces code width (now (chars .entry)) (now (marks .entry)) cell end) (now (reply .exit)) r ⌝ }
 {
     let marked = some_marked(marks, cell, end);
     if marked {
-        return put_text(chars, reply, at, place_of(width, cell), cell, end);
+        return put_text(chars, reply, at, code, place_of(width, cell), cell, end);
     }
     at
 }
@@ -35,17 +36,18 @@ pub(crate) fn put_modified(
     marks: &[u8],
     reply: &mut [u8],
     at: usize,
+    code: u8,
     width: u8,
 ) -> usize
     ensures { λ r. ⌜ Wrote (now (reply .entry)) at
-        (modifiedPieces width (now (chars .entry)) (now (attrs .entry)) (now (marks .entry)) 0 (length (now (attrs .entry))))
+        (modifiedPieces code width (now (chars .entry)) (now (attrs .entry)) (now (marks .entry)) 0 (length (now (attrs .entry))))
         (now (reply .exit)) r ⌝ }
 {
     let mut next = at;
     let mut cell = field_from(attrs, 0);
     while cell < attrs.len() {
         let end = field_end(attrs, cell);
-        next = put_marked(chars, marks, reply, width, cell, end, next);
+        next = put_marked(chars, marks, reply, code, width, cell, end, next);
         cell = field_from(attrs, end);
     }
     next

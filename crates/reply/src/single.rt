@@ -11,7 +11,6 @@ ghost use Rattle.reply.specs.Pieces.{textPiece, separatorPieces};
 ghost use Rattle.reply.specs.inner.Single.{singlePieces, EachOpens, Singles};
 use crate::bytes::put_bytes;
 use command::number::DET;
-use command::number::FIELD_SEPARATOR;
 use screen::attribute::protection;
 use telnet::code::IAC;
 use telnet::code::SB;
@@ -85,27 +84,25 @@ pub(crate) fn are_singles(
 }
 
 // A separator and one character.
-fn put_single(chars: &[u8], reply: &mut [u8], cell: usize, at: usize) -> usize
+fn put_single(chars: &[u8], reply: &mut [u8], cell: usize, at: usize, code: u8) -> usize
     requires { ⌜ (cell < length (now chars)) × (at + 7 ≤ length (now reply)) ⌝ }
+    requires { ⌜ eqb code 255 ≡ false ⌝ }
     ensures { λ r. ⌜ (r ≡ at + 7) × Wrote (now (reply .entry)) at
-        (separatorPieces false ++ (textPiece cell (cell + 1) (now (chars .entry)) ∷ [])) (now (reply .exit)) r ⌝ }
+        (separatorPieces code false ++ (textPiece cell (cell + 1) (now (chars .entry)) ∷ [])) (now (reply .exit)) r ⌝ }
 {
-    put_bytes(
-        reply,
-        at,
-        &[IAC, SB, DET, FIELD_SEPARATOR, IAC, SE, chars[cell]],
-    )
+    put_bytes(reply, at, &[IAC, SB, DET, code, IAC, SE, chars[cell]])
 }
 
 // The thirty-two fields from the cell on.
-pub(crate) fn put_singles(chars: &[u8], reply: &mut [u8], cell: usize, at: usize) -> usize
+pub(crate) fn put_singles(chars: &[u8], reply: &mut [u8], cell: usize, at: usize, code: u8) -> usize
     requires { ⌜ (cell + 32 ≤ length (now chars)) × (at + 224 ≤ length (now reply)) ⌝ }
-    ensures { λ r. ⌜ Wrote (now (reply .entry)) at (singlePieces (now (chars .entry)) cell 32) (now (reply .exit)) r ⌝ }
+    requires { ⌜ eqb code 255 ≡ false ⌝ }
+    ensures { λ r. ⌜ Wrote (now (reply .entry)) at (singlePieces code (now (chars .entry)) cell 32) (now (reply .exit)) r ⌝ }
 {
     let mut next = at;
     let mut i = 0;
     while i < 32 {
-        next = put_single(chars, reply, cell + i, next);
+        next = put_single(chars, reply, cell + i, next, code);
         i += 1;
     }
     next

@@ -7,6 +7,8 @@ use Prim.Native.String.{String}
 use Rattle.words.specs.Words.{if_then_else_, bit}
 use Rattle.rules.specs.declared.Governor.the-variants.{EditBit, EraseBit, TransmitBit, Format0Bit, Format1Bit}
 use Rattle.rules.specs.declared.Maps.{Maps}
+use Rattle.rules.specs.declared.Edition.{Edition}
+use Rattle.rules.specs.declared.Edition.the-variants.{June, September}
 use Rattle.rules.specs.Session.{State, noMaps}
 use Rattle.rules.specs.Facility.{agreed}
 use Rattle.rules.specs.Command.{Row, rows}
@@ -79,43 +81,56 @@ agreed-holds = each-equal agreed-cases agreed-pass
 
 -- ---- the intersection with the terminal's own maps, whatever the bit and the maps received are
 
-pub record Intersects (m : Maps) (w : ℕ) : Type 0 where
-  pub edit : agreed m (EditBit w) ≡ (bit w (m .edit) && bit w 126)
-  pub erase : agreed m (EraseBit w) ≡ (bit w (m .erase) && bit w 31)
-  pub transmit : agreed m (TransmitBit w) ≡ (bit w (m .transmit) && bit w 63)
-  pub format0 : agreed m (Format0Bit w) ≡ (bit w (m .format0) && bit w 208)
-  pub format1 : agreed m (Format1Bit w) ≡ (bit w (m .format1) && bit w 121)
+pub record Intersects (e : Edition) (m : Maps) (w : ℕ) : Type 0 where
+  pub edit : agreed e m (EditBit w) ≡ (bit w (m .edit) && bit w 126)
+  pub erase : agreed e m (EraseBit w) ≡ (bit w (m .erase) && bit w 31)
+  pub transmit : agreed e m (TransmitBit w) ≡ (bit w (m .transmit) && bit w 63)
+  pub format1 : agreed e m (Format1Bit w) ≡ (bit w (m .format1) && bit w 121)
 
-pub intersects : (m : Maps) (w : ℕ) → Intersects m w
+pub intersects : (e : Edition) (m : Maps) (w : ℕ) → Intersects e m w
 unfolding agreed
-intersects m w = record { edit = refl; erase = refl; transmit = refl; format0 = refl; format1 = refl }
+intersects e m w = record { edit = refl; erase = refl; transmit = refl; format1 = refl }
 
--- ---- each bit of each map, and the codes that it lets through
+-- the first format map goes by the edition (request (vi))
+pub record IntersectsFormat (m : Maps) (w : ℕ) : Type 0 where
+  pub june : agreed June m (Format0Bit w) ≡ (bit w (m .format0) && bit w 144)
+  pub september : agreed September m (Format0Bit w) ≡ (bit w (m .format0) && bit w 208)
+
+pub intersects-format : (m : Maps) (w : ℕ) → IntersectsFormat m w
+unfolding agreed
+intersects-format m w = record { june = refl; september = refl }
+
+-- ---- each bit of each map, and the commands that it lets through in an edition, by document 01's codes
 
 unfoldable pub lets : (Row → Bool) → List Row → List ℕ
 lets test [] = []
 lets test (r ∷ rs) = if test r then r .code ∷ lets test rs else lets test rs
 
 -- those that need nothing, and those that need it and no more
-abbrev free : List ℕ
-free = lets (λ r. agreed noMaps (r .governor)) rows
+abbrev free : Edition → List ℕ
+free e = lets (λ r. agreed e noMaps (r .governor)) rows
 
-abbrev with : Maps → List ℕ
-with m = lets (λ r. agreed m (r .governor) && not (agreed noMaps (r .governor))) rows
+abbrev with : Edition → Maps → List ℕ
+with e m = lets (λ r. agreed e m (r .governor) && not (agreed e noMaps (r .governor))) rows
 
 -- the bits 7 to 0 of a byte of the maps
-abbrev each : (ℕ → Maps) → List (List ℕ)
-each byte = map (λ w. with (byte w)) (128 ∷ 64 ∷ 32 ∷ 16 ∷ 8 ∷ 4 ∷ 2 ∷ 1 ∷ [])
+abbrev each : Edition → (ℕ → Maps) → List (List ℕ)
+each e byte = map (λ w. with e (byte w)) (128 ∷ 64 ∷ 32 ∷ 16 ∷ 8 ∷ 4 ∷ 2 ∷ 1 ∷ [])
 
-pub record Governs : Type 0 where
-  pub none : free ≡ 1 ∷ 2 ∷ 3 ∷ 4 ∷ 5 ∷ 12 ∷ 20 ∷ 29 ∷ 36 ∷ 41 ∷ []
-  pub edit : each (λ w. maps w 0 0 0 0)
+-- the same in both, but for what the bit of TRANSMIT MODIFIED lets through
+pub record Governs (e : Edition) (modified : List ℕ) : Type 0 where
+  pub none : free e ≡ 1 ∷ 2 ∷ 3 ∷ 4 ∷ 5 ∷ 12 ∷ 20 ∷ 29 ∷ 36 ∷ 41 ∷ []
+  pub edit : each e (λ w. maps w 0 0 0 0)
       ≡ [] ∷ (6 ∷ 7 ∷ []) ∷ (8 ∷ 9 ∷ 10 ∷ 11 ∷ []) ∷ (17 ∷ []) ∷ (13 ∷ 14 ∷ []) ∷ (15 ∷ 16 ∷ []) ∷ (19 ∷ []) ∷ [] ∷ []
-  pub erase : each (λ w. maps 0 w 0 0 0) ≡ [] ∷ [] ∷ [] ∷ (31 ∷ []) ∷ (30 ∷ []) ∷ (32 ∷ []) ∷ (33 ∷ []) ∷ (34 ∷ []) ∷ []
-  pub transmit : each (λ w. maps 0 0 w 0 0) ≡ [] ∷ [] ∷ [] ∷ (22 ∷ []) ∷ (23 ∷ []) ∷ (24 ∷ []) ∷ (25 ∷ []) ∷ (26 ∷ []) ∷ []
-  pub format0 : each (λ w. maps 0 0 0 w 0) ≡ [] ∷ (27 ∷ []) ∷ [] ∷ (37 ∷ []) ∷ [] ∷ [] ∷ [] ∷ [] ∷ []
-  pub format1 : each (λ w. maps 0 0 0 0 w) ≡ [] ∷ (38 ∷ []) ∷ (21 ∷ 35 ∷ []) ∷ [] ∷ [] ∷ [] ∷ [] ∷ [] ∷ []
+  pub erase : each e (λ w. maps 0 w 0 0 0) ≡ [] ∷ [] ∷ [] ∷ (31 ∷ []) ∷ (30 ∷ []) ∷ (32 ∷ []) ∷ (33 ∷ []) ∷ (34 ∷ []) ∷ []
+  pub transmit : each e (λ w. maps 0 0 w 0 0) ≡ [] ∷ [] ∷ [] ∷ (22 ∷ []) ∷ (23 ∷ []) ∷ (24 ∷ []) ∷ (25 ∷ []) ∷ (26 ∷ []) ∷ []
+  pub format0 : each e (λ w. maps 0 0 0 w 0) ≡ [] ∷ modified ∷ [] ∷ (37 ∷ []) ∷ [] ∷ [] ∷ [] ∷ [] ∷ []
+  pub format1 : each e (λ w. maps 0 0 0 0 w) ≡ [] ∷ (38 ∷ []) ∷ (21 ∷ 35 ∷ []) ∷ [] ∷ [] ∷ [] ∷ [] ∷ [] ∷ []
 
-pub governs : Governs
+pub september-governs : Governs September (27 ∷ [])
 unfolding computing lets
-governs = record { none = refl; edit = refl; erase = refl; transmit = refl; format0 = refl; format1 = refl }
+september-governs = record { none = refl; edit = refl; erase = refl; transmit = refl; format0 = refl; format1 = refl }
+
+pub june-governs : Governs June []
+unfolding computing lets
+june-governs = record { none = refl; edit = refl; erase = refl; transmit = refl; format0 = refl; format1 = refl }

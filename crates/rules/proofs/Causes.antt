@@ -1,5 +1,5 @@
 -- Nothing but what the documents name changes the attribute bytes, the options, suppression, the characters, the cursor, or what the PAD
--- keeps.
+-- keeps; nothing at all the edition.
 use mathlib.Core.Path.{_≡_, refl, sym, _∙_}
 use mathlib.Core.Bool.{Bool, true, false, not, _&&_}
 use mathlib.Core.List.{List, [], _∷_, _++_, map}
@@ -36,6 +36,7 @@ use Rattle.rules.specs.declared.Fault.the-variants.{NoFault, NotAgreed, 
 use Rattle.rules.specs.declared.Key.{Key}
 use Rattle.rules.specs.Session.{View, State, printable, cells, x3Cells, switched, withX3, withReceived, lineTakesKeys, viewOf, cursorCell, screenEnd, withCursor, withModes, withFrame, withAttrs}
 use Rattle.rules.specs.Effect.{Effect, Executed, Change, Marking, kept, marksAfter, Part, changedAll, changing, saying, quiet, writing, clearing}
+use Rattle.rules.specs.Edition.{meantBy}
 use Rattle.rules.specs.Facility.{agreed}
 use Rattle.rules.specs.Command.{Row, rows, Listed, listed, unlisted, rowOf, codeIn, parameter, formatCount, valueFault, faultOf}
 use Rattle.rules.specs.Cursor.{cursorGuarded}
@@ -47,12 +48,12 @@ use Rattle.rules.specs.Refusal.{isTaken}
 use Rattle.rules.specs.Operation.{happening, hostByte, applied, running, unless, hostBytes, hostRefusal, pressEffect, padPressed, oneKey, keyRefusal}
 use Rattle.rules.specs.Call.{host, key, called}
 use Rattle.rules.specs.Executed.{oneOf}
-use Rattle.rules.specs.Causes.{Aspect, attributes, det, x3, suppression, received, characters, marks, cursor, values, line, Same, changers, byte, execution, negotiation, keystroke, typing, mayChange, commandCause, messageCause, causeOf, causesIn, keyCause, causesOf, noneChanges, NothingElse, ReaderKept}
+use Rattle.rules.specs.Causes.{Aspect, attributes, det, x3, suppression, received, characters, marks, cursor, values, line, Same, changers, byte, execution, negotiation, keystroke, typing, mayChange, commandCause, messageCause, causeOf, causesIn, keyCause, causesOf, noneChanges, NothingElse, EditionKept, ReaderKept}
 use Rattle.rules.proofs.All.{All, _and_, all-equal}
 use Rattle.rules.proofs.Rows.{in-list, found-code}
 use Rattle.rules.proofs.Options.{by-option}
--- what a call executes is checked first
-use Rattle.rules.proofs.Executed.{seven}
+-- the worked cases are checked first
+use Rattle.rules.proofs.Every.{every-byte}
 
 -- what an effect leaves as it was, where it may not change
 record Leaves (may : Aspect → Bool) (v : View) (e : Effect) : Type 0 where
@@ -64,6 +65,7 @@ record Leaves (may : Aspect → Bool) (v : View) (e : Effect) : Type 0 where
   the-characters : may characters ≡ false → e .changes ≡ []
   the-marks : may marks ≡ false → e .marking ≡ kept
   the-cursor : may cursor ≡ false → e .view .frame .cursor ≡ v .frame .cursor
+  the-edition : e .view .frame .edition ≡ v .frame .edition
 
 -- and what is left of the PAD
 record LeavesPad (may : Aspect → Bool) (p q : Pad) : Type 0 where
@@ -78,9 +80,9 @@ abbrev leaving : {may : Aspect → Bool} {v w : View} {cs : List Change} {m : Ma
     → (may x3 ≡ false → w .frame .x3 ≡ v .frame .x3)
     → (may suppression ≡ false → w .frame .suppressed ≡ v .frame .suppressed)
     → (may received ≡ false → w .frame .received ≡ v .frame .received) → (may characters ≡ false → cs ≡ [])
-    → (may marks ≡ false → m ≡ kept) → (may cursor ≡ false → w .frame .cursor ≡ v .frame .cursor)
+    → (may marks ≡ false → m ≡ kept) → (may cursor ≡ false → w .frame .cursor ≡ v .frame .cursor) → w .frame .edition ≡ v .frame .edition
     → Leaves may v (record { view = w; changes = cs; marking = m; reply = ps; executed = es })
-leaving a b x c r d m e =
+leaving a b x c r d m e n =
     record {
       the-attributes = a;
       the-det = b;
@@ -90,6 +92,7 @@ leaving a b x c r d m e =
       the-characters = d;
       the-marks = m;
       the-cursor = e;
+      the-edition = n;
     }
 
 same : {b : Bool} {A : Type 0} {x : A} → b ≡ false → x ≡ x
@@ -98,56 +101,56 @@ same e = refl
 module _ {v : View} {may : Aspect → Bool} where
   -- nothing but a reply
   says : {ps : List Part} → Leaves may v (saying v ps)
-  says = leaving same same same same same same same same
+  says = leaving same same same same same same same same refl
 
   moves : {p : Place} {ps : List Part} → may cursor ≡ true → Leaves may v (saying (withCursor v p) ps)
-  moves e = leaving same same same same same same same (not-both _ e)
+  moves e = leaving same same same same same same same (not-both _ e) refl
 
   edits : {cs : List Change} → may characters ≡ true → Leaves may v (changing v cs)
-  edits e = leaving same same same same same (not-both _ e) same same
+  edits e = leaving same same same same same (not-both _ e) same same refl
 
   -- a shift, a typed character, 27, 35
   shifts : {c : Change} {from end : ℕ} → may characters ≡ true → may marks ≡ true → Leaves may v (writing v c from end)
-  shifts e d = leaving same same same same same (not-both _ e) (not-both _ d) same
+  shifts e d = leaving same same same same same (not-both _ e) (not-both _ d) same refl
 
   types : {p : Place} {c : Change} {from end : ℕ} → may characters ≡ true → may marks ≡ true → may cursor ≡ true
       → Leaves may v (writing (withCursor v p) c from end)
-  types e d c = leaving same same same same same (not-both _ e) (not-both _ d) (not-both _ c)
+  types e d c = leaving same same same same same (not-both _ e) (not-both _ d) (not-both _ c) refl
 
   sends : {p : Place} {ps : List Part} → may marks ≡ true → may cursor ≡ true → Leaves may v (clearing (saying (withCursor v p) ps))
-  sends e d = leaving same same same same same same (not-both _ e) (not-both _ d)
+  sends e d = leaving same same same same same same (not-both _ e) (not-both _ d) refl
 
   blanks : {p : Place} {cs : List Change} → may characters ≡ true → may marks ≡ true → may cursor ≡ true
       → Leaves may v (clearing (changing (withCursor v p) cs))
-  blanks e d c = leaving same same same same same (not-both _ e) (not-both _ d) (not-both _ c)
+  blanks e d c = leaving same same same same same (not-both _ e) (not-both _ d) (not-both _ c) refl
 
   writes : {p : Place} {cs : List Change} → may characters ≡ true → may cursor ≡ true → Leaves may v (changing (withCursor v p) cs)
-  writes e d = leaving same same same same same (not-both _ e) same (not-both _ d)
+  writes e d = leaving same same same same same (not-both _ e) same (not-both _ d) refl
 
   formats : {attrs : List ℕ} → may attributes ≡ true → Leaves may v (quiet (withAttrs v attrs))
-  formats e = leaving (not-both _ e) same same same same same same same
+  formats e = leaving (not-both _ e) same same same same same same same refl
 
   -- suppression, DET, the maps received, or all of them; option 30
   suppresses : {off : Bool} {ps : List Part} → may suppression ≡ true → Leaves may v (saying (withModes v (v .frame .det) off) ps)
-  suppresses e = leaving same same same (not-both _ e) same same same same
+  suppresses e = leaving same same same (not-both _ e) same same same same refl
 
   switches : {on : Bool} {ps : List Part} → may det ≡ true → Leaves may v (saying (withModes v on (v .frame .suppressed)) ps)
-  switches e = leaving same (not-both _ e) same same same same same same
+  switches e = leaving same (not-both _ e) same same same same same same refl
 
   asks : {m : Maps} {ps : List Part} → may received ≡ true → Leaves may v (saying (withFrame v (withReceived (v .frame) m)) ps)
-  asks e = leaving same same same same (not-both _ e) same same same
+  asks e = leaving same same same same (not-both _ e) same same same refl
 
   resets : {on off : Bool} {m : Maps} {ps : List Part} → may det ≡ true → may suppression ≡ true → may received ≡ true
       → Leaves may v (saying (withFrame v (withReceived (switched (v .frame) on off) m)) ps)
-  resets e d c = leaving same (not-both _ e) same (not-both _ d) (not-both _ c) same same same
+  resets e d c = leaving same (not-both _ e) same (not-both _ d) (not-both _ c) same same same refl
 
   turns : {on : Bool} {ps : List Part} → may x3 ≡ true → Leaves may v (saying (withFrame v (withX3 (v .frame) on)) ps)
-  turns e = leaving same same (not-both _ e) same same same same same
+  turns e = leaving same same (not-both _ e) same same same same same refl
 
   -- 29: a blank screen
   clears : {p : Place} {attrs : List ℕ} {cs : List Change} → may attributes ≡ true → may characters ≡ true → may marks ≡ true
       → may cursor ≡ true → Leaves may v (clearing (changing (withAttrs (withCursor v p) attrs) cs))
-  clears e d m c = leaving (not-both _ e) same same same same (not-both _ d) (not-both _ m) (not-both _ c)
+  clears e d m c = leaving (not-both _ e) same same same same (not-both _ d) (not-both _ m) (not-both _ c) refl
 
 -- a shift, unless something is guarded
 shifts-unless : {may : Aspect → Bool} (v : View) (guarded : Bool) (s : Shift) (from end by : ℕ) → may characters ≡ true
@@ -176,7 +179,7 @@ module _ {may : Aspect → Bool} (e : may characters ≡ true) (d : may cursor �
   leaves-then one rest a b =
       leaving (λ h. b .the-attributes h ∙ a .the-attributes h) (λ h. b .the-det h ∙ a .the-det h) (λ h. b .the-x3 h ∙ a .the-x3 h)
       (λ h. b .the-suppression h ∙ a .the-suppression h) (λ h. b .the-received h ∙ a .the-received h) (not-both _ e) same
-      (not-both _ d)
+      (not-both _ d) (b .the-edition ∙ a .the-edition)
 
   leaves-characters : (n : ℕ) (v : View) (c : ℕ) → Leaves may v (hostCharacters n v c)
   unfolding hostCharacters
@@ -246,7 +249,7 @@ module _ (v : View) (h : Held) where
   limits : (c : Command) (n : ℕ) (g : Governor) → Limits c (faultOf v c n g h)
   unfolding faultOf
   limits c n g =
-      either (Limits c) (not (agreed (v .frame .received) g)) (λ q e. cc)
+      either (Limits c) (not (agreed (v .frame .edition) (v .frame .received) g)) (λ q e. cc)
       (λ q. either (Limits c) (ltb (h .count) (n + 1)) (λ q e. cc)
       (λ q. either (Limits c) (ltb (n + 1) (h .count)) (λ q e. cc) (λ q. limits-value c)))
 
@@ -280,11 +283,12 @@ module _ (v : View) (h : Held) where
 
   -- what was obeyed, by what was executed
   abbrev LeavesCommand : Effect → Type 0
-  LeavesCommand e = Leaves (λ a. mayChange a (commandCause h (e .executed))) v e
+  LeavesCommand e = Leaves (λ a. mayChange a (commandCause (v .frame .edition) h (e .executed))) v e
 
-  leaves-judged : (r : Row) → LeavesRow r → (f : Fault) → (f ≡ OffScreen → eqb (codeIn h) 5 ≡ true) → LeavesCommand (judged v r h f)
+  leaves-judged : (r : Row) → LeavesRow r → (f : Fault) → (f ≡ OffScreen → eqb (meantBy (v .frame .edition) (codeIn h)) 5 ≡ true)
+      → LeavesCommand (judged v r h f)
   unfolding judged commandCause mayChange changers oneOf
-  leaves-judged r k NoFault l = leaving (k .the-attributes) (k .the-det) (k .the-x3) (k .the-suppression) (k .the-received) (k .the-characters) (k .the-marks) (k .the-cursor)
+  leaves-judged r k NoFault l = leaving (k .the-attributes) (k .the-det) (k .the-x3) (k .the-suppression) (k .the-received) (k .the-characters) (k .the-marks) (k .the-cursor) (k .the-edition)
   leaves-judged r k OffScreen l = moves (rw (l refl))
   leaves-judged r k NotAgreed l = says
   leaves-judged r k UnknownCode l = says
@@ -293,14 +297,15 @@ module _ (v : View) (h : Held) where
   leaves-judged r k BadValue l = says
   leaves-judged r k BadMap l = says
 
-  leaves-looked : (l : Listed) → rowOf (codeIn h) ≡ l → LeavesCommand (looked v l h)
+  leaves-looked : (l : Listed) → rowOf (v .frame .edition) (codeIn h) ≡ l → LeavesCommand (looked v l h)
   unfolding looked
   leaves-looked unlisted e = says
   leaves-looked (listed r) e =
-      let row = in-list LeavesRow leaves-rows (codeIn h) in
-      let five = in-list (λ r. isMove (r .command) ≡ eqb (r .code) 5) (all-equal _ _ rows moves-5) (codeIn h) in
+      let edition = v .frame .edition in
+      let row = in-list LeavesRow leaves-rows edition (codeIn h) in
+      let five = in-list (λ r. isMove (r .command) ≡ eqb (r .code) 5) (all-equal _ _ rows moves-5) edition (codeIn h) in
       leaves-judged r (rw e at row) _
-      (λ f. rw (← found-code (codeIn h) r e) (sym (rw e at five) ∙ limits (r .command) (r .parameters) (r .governor) f))
+      (λ f. rw (← found-code edition (codeIn h) r e) (sym (rw e at five) ∙ limits (r .command) (r .parameters) (r .governor) f))
 
   leaves-subcommand : LeavesCommand (subcommand v h)
   unfolding subcommand
@@ -415,7 +420,7 @@ module _ (v : View) where
       let some : between 1 127 k ≡ true = in-between 1 127 k (omega (arith, eqb-false k 0 e)) (omega (arith, ltb-true k 128 h)) in
       let text = leaves-text {may = λ a. mayChange a (typing k)} some some (echoedAt p k) v in
       leaving (text .the-attributes) (text .the-det) (text .the-x3) (text .the-suppression) (text .the-received) (text .the-characters)
-      (text .the-marks) (text .the-cursor))
+      (text .the-marks) (text .the-cursor) (text .the-edition))
 
 leaves-key : (s : State) (k : ℕ) → Leaves (λ a. mayChange a (keyCause (s .session .frame) k)) (viewOf s) (pressEffect s k)
 unfolding keyCause
@@ -496,6 +501,22 @@ nothing-else a s (key k reply) =
     (λ e. rw e
     (λ n. same-applied a s _ _ _ (not-true _ (and-left (not may) _ n)) (leaves-key s k) (key-pad s k)))
     (λ e. rw e (λ n. same-refl a s))
+
+-- the edition
+pub edition-byte : (s : State) (b : ℕ) → (hostByte s b) .state .session .frame .edition ≡ s .session .frame .edition
+unfolding hostByte
+edition-byte s b = leaves-event (viewOf s) _ _ _ .the-edition
+
+edition-run : (s : State) (bs : List ℕ) → (running s bs) .state .session .frame .edition ≡ s .session .frame .edition
+unfolding running
+edition-run s [] = refl
+edition-run s (b ∷ bs) = edition-run ((hostByte s b) .state) bs ∙ edition-byte s b
+
+pub edition-kept : EditionKept
+unfolding called hostBytes oneKey unless
+edition-kept s (host input reply) = true-or-false (isTaken (hostRefusal s reply)) (λ e. rw e (edition-run s _)) (λ e. rw e)
+edition-kept s (key k reply) =
+    true-or-false (isTaken (keyRefusal s reply k)) (λ e. rw e (leaves-key s k .the-edition)) (λ e. rw e)
 
 pub reader-kept : ReaderKept
 unfolding called oneKey unless

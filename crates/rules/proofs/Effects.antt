@@ -11,6 +11,7 @@ use Rattle.telnet.specs.declared.Verb.{Verb}
 use Rattle.telnet.specs.declared.Verb.the-variants.{Will, Wont, Do, Dont}
 use Rattle.telnet.specs.declared.Event.{Event}
 use Rattle.telnet.specs.declared.Event.the-variants.{Nothing, Data, Negotiation, Begin, Sub, End, EndBare, Lost}
+use Rattle.telnet.specs.Reader.{verbCode}
 use Rattle.telnet.specs.Writer.{doubled, subnegotiation, negotiation}
 use Rattle.edit.specs.declared.range.Shift.{Shift}
 use Rattle.edit.specs.declared.range.Shift.the-variants.{Deletion}
@@ -37,7 +38,8 @@ use Rattle.rules.specs.declared.Key.{Key}
 use Rattle.rules.specs.declared.Key.the-variants.{Typed, Back, Tab, Send, Delete, Function, Meaningless}
 use Rattle.rules.specs.Session.{View, State, printable, cells, x3Cells, withReceived, lineTakesKeys, viewOf, withFrame}
 use Rattle.rules.specs.Effect.{Effect, Change, Marking, Part, bytes, text, changedAll, message, saying, quiet}
-use Rattle.rules.specs.Number.{detOption, dataTransmit, cursorPosition, error}
+use Rattle.rules.specs.Number.{detOption, dataTransmit, cursorPosition, suppressProtection, fn, error}
+use Rattle.rules.specs.Edition.{codeFor}
 use Rattle.rules.specs.Facility.{ownMap}
 use Rattle.rules.specs.Cursor.{cursorGuarded}
 use Rattle.rules.specs.Telnet.{isOn, accepts, turned, switchedOn, switchedOff, negotiated, hostCharacter, hostCharacters, hostData, hostText}
@@ -50,7 +52,8 @@ use Rattle.rules.proofs.Characters.{Text, Fine, text-changed, changed-a
 use Rattle.rules.proofs.Errors.{no-fault}
 use Rattle.rules.proofs.Options.{by-option}
 use Rattle.rules.proofs.Pads.{SoundPad, sent-most}
-use Rattle.rules.proofs.Replies.{InRoom, Follows, fits-nothing, fits-bytes, fits-within, fits-prefaced, place-message, error-message, function-message, response-message, one-text, no-text, fields-text, modified-text}
+use Rattle.rules.proofs.Editions.{not-iac}
+use Rattle.rules.proofs.Replies.{InRoom, Follows, format-message, fits-nothing, fits-bytes, fits-within, fits-prefaced, place-message, error-message, byte-message, response-message, one-text, no-text, fields-text, modified-text}
 use Rattle.rules.proofs.Views.{On, SoundView, at-place, switched, asked, turned-x3, attributed, limited-on, skipped-line-on, skipped-char-on, place-on, some, field-lt, cursor-lt, destination-on, goes}
 
 -- what an effect keeps on a screen m cells wide and n lines high
@@ -83,12 +86,13 @@ module _ {m n : ℕ} {v : View} (k : SoundView m n v) where
   changes c f =
       record { view = k; changes = λ attrs chars t. text-changed chars attrs c f t; reply = fits-nothing m n; executed = omega arith }
 
-  place-long : (code : ℕ) → eqb code 255 ≡ false → (p : Place) → On m n p
-      → length (subnegotiation detOption (code ∷ p .x .0 ∷ p .y .0 ∷ [])) ≡ 8
-  place-long code e p h = place-message code (p .x .0) (p .y .0) e (omega arith) (omega arith)
+  place-long : (command : ℕ) → command < 255 → (p : Place) → On m n p
+      → length (subnegotiation detOption (codeFor (v .frame .edition) command ∷ p .x .0 ∷ p .y .0 ∷ [])) ≡ 8
+  place-long command l p h = place-message _ (p .x .0) (p .y .0) (not-iac _ command l) (omega arith) (omega arith)
 
-  errs : (code number : ℕ) → eqb number 255 ≡ false → Keeps m n (saying v (message (error ∷ code ∷ number ∷ []) ∷ []))
-  errs code number e = tells _ (error-message code number e)
+  errs : (code number : ℕ) → eqb number 255 ≡ false
+      → Keeps m n (saying v (message (codeFor (v .frame .edition) error ∷ code ∷ number ∷ []) ∷ []))
+  errs code number e = tells _ (error-message _ code number (not-iac _ error (omega arith)) e)
 
 answers : {m n : ℕ} {w : View} (b : Bool) {ps qs : List Part} → Keeps m n (saying w ps) → Keeps m n (saying w qs)
     → Keeps m n (saying w (if b then ps else qs))
@@ -167,8 +171,8 @@ chosen false e = cc
 module _ {m n : ℕ} {v : View} (k : SoundView m n v) where
   -- a transmission, which leaves another view
   sends : {w : View} → SoundView m n w → (p : Place) → On m n p → (ps : List Part) → Follows (n * m) ps
-      → Keeps m n (saying w (preface p ∷ ps))
-  sends f p h ps g = says f _ (fits-prefaced m n _ ps (place-long k dataTransmit refl p h) g)
+      → Keeps m n (saying w (preface v p ∷ ps))
+  sends f p h ps g = says f _ (fits-prefaced m n _ ps (place-long k dataTransmit (omega arith) p h) g)
 
   a-text : (from end : ℕ) → Follows (n * m) (text from end ∷ [])
   a-text = one-text (cells-some k)
@@ -183,7 +187,7 @@ module _ {m n : ℕ} {v : View} (k : SoundView m n v) where
   unfolding transmitted
   keeps-transmitted WholeScreen = sends (goes k Corner) _ (destination-on k Corner) _ (a-text _ _)
   keeps-transmitted Unprotected =
-      sends (goes k FirstField) _ (destination-on k FirstField) _ (rw (← k .attrs) (fields-text (v .attrs) (some k)))
+      sends (goes k FirstField) _ (destination-on k FirstField) _ (rw (← k .attrs) (fields-text (v .frame .edition) (v .attrs) (some k)))
   keeps-transmitted WholeLine = sends (goes k NextLine) _ (destination-on k LineStart) _ (a-text _ _)
   keeps-transmitted RestOfScreen = sends k _ (k .cursor) _ (a-text _ _)
   keeps-transmitted RestOfLine = sends k _ (k .cursor) _ (a-text _ _)
@@ -191,8 +195,8 @@ module _ {m n : ℕ} {v : View} (k : SoundView m n v) where
   keeps-transmitted RestOfField = sends-field _ (place-on k _ (cursor-lt k))
 
   -- 27
-  place-bytes : (j : ℕ) → j < length (v .attrs) → length (prefaceBytes (placeOf (v .frame .width) j)) ≡ 8
-  place-bytes j h = place-long k dataTransmit refl _ (place-on k j h)
+  place-bytes : (j : ℕ) → j < length (v .attrs) → length (prefaceBytes (v .frame .edition) (placeOf (v .frame .width) j)) ≡ 8
+  place-bytes j h = place-long k dataTransmit (omega arith) _ (place-on k j h)
 
   keeps-modified : Keeps m n (transmittedModified v)
   unfolding changedAll
@@ -200,7 +204,7 @@ module _ {m n : ℕ} {v : View} (k : SoundView m n v) where
       record {
         view = goes k FirstField;
         changes = λ attrs chars t. t;
-        reply = modified-text m n (v .attrs) (v .frame .width) (k .attrs) place-bytes;
+        reply = modified-text m n (v .frame .edition) (v .attrs) (v .frame .width) (k .attrs) place-bytes;
         executed = omega arith;
       }
 
@@ -215,20 +219,22 @@ module _ {m n : ℕ} {v : View} (k : SoundView m n v) where
   keeps-erasure RestOfField = changes k _ tt
 
   keeps-suppressing : (parameter : ℕ) → Keeps m n (suppressing v parameter)
-  unfolding suppressing subnegotiation doubled
+  unfolding suppressing
   keeps-suppressing parameter =
+      let short : (verb : Verb) → length (subnegotiation 20 (codeFor (v .frame .edition) suppressProtection ∷ verbCode verb ∷ [])) ≤ 9 =
+      λ verb. byte-message _ _ (not-iac _ suppressProtection (omega arith)) in
       either (Keeps m n) (eqb parameter 253)
-      (λ q. answers (v .frame .suppressed) (quietly (switched k _ _)) (tells (switched k _ _) _ (omega arith)))
+      (λ q. answers (v .frame .suppressed) (quietly (switched k _ _)) (tells (switched k _ _) _ (short Will)))
       (λ q. either (Keeps m n) (eqb parameter 254)
-      (λ q. answers (v .frame .suppressed) (tells (switched k _ _) _ (omega arith)) (quietly (switched k _ _)))
-      (λ q. either (Keeps m n) (eqb parameter 251) (λ q. tells k _ (omega arith)) (λ q. quietly k)))
+      (λ q. answers (v .frame .suppressed) (tells (switched k _ _) _ (short Wont)) (quietly (switched k _ _)))
+      (λ q. either (Keeps m n) (eqb parameter 251) (λ q. tells k _ (short Dont)) (λ q. quietly k)))
 
-  keeps-map : (f : Facility) (m₁ : Maps) → Keeps m n (saying (withFrame v (withReceived (v .frame) m₁)) (message (ownMap f) ∷ []))
+  keeps-map : (f : Facility) (m₁ : Maps) → Keeps m n (saying (withFrame v (withReceived (v .frame) m₁)) (message (ownMap (v .frame .edition) f) ∷ []))
   unfolding ownMap subnegotiation doubled
   keeps-map Editing m₁ = tells (asked k m₁) _ (omega arith)
   keeps-map Erasing m₁ = tells (asked k m₁) _ (omega arith)
   keeps-map Transmitting m₁ = tells (asked k m₁) _ (omega arith)
-  keeps-map Formatting m₁ = tells (asked k m₁) _ (omega arith)
+  keeps-map Formatting m₁ = tells (asked k m₁) _ (format-message (v .frame .edition))
 
   -- a shift, unless something is guarded
   shifts-unless : (guarded : Bool) (s : Shift) (from end by : ℕ) → Keeps m n (if guarded then quiet v else shiftingCells v s from end by)
@@ -243,7 +249,7 @@ module _ {m n : ℕ} {v : View} (k : SoundView m n v) where
   keeps-obeyed (Move to) h e = quietly (goes k to)
   keeps-obeyed (LineShift s) h e = shifts-unless (linesGuarded v) s _ _ _
   keeps-obeyed (CharShift s) h e = shifts-unless (cursorGuarded v) s _ _ _
-  keeps-obeyed ReadCursor h e = tells k _ (omega (arith, place-long k cursorPosition refl (v .frame .cursor) (k .cursor)))
+  keeps-obeyed ReadCursor h e = tells k _ (omega (arith, place-long k cursorPosition (omega arith) (v .frame .cursor) (k .cursor)))
   keeps-obeyed (Transmit a) h e = keeps-transmitted a
   keeps-obeyed TransmitModified h e = keeps-modified
   keeps-obeyed (Erase a) h e = keeps-erasure a
@@ -331,7 +337,7 @@ keeps-pressed k Back p = quietly (goes k PreviousOpen)
 keeps-pressed k Tab p = quietly (goes k NextField)
 keeps-pressed k Send p = keeps-transmitted k Unprotected
 keeps-pressed {v = v} k Delete p = shifts-unless k (cursorGuarded v) Deletion _ _ _
-keeps-pressed k (Function f) p = tells k _ (function-message f)
+keeps-pressed k (Function f) p = tells k _ (byte-message _ f (not-iac _ fn (omega arith)))
 keeps-pressed k Meaningless p = quietly k
 
 -- one that the edit line takes

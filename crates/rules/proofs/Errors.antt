@@ -65,12 +65,12 @@ module _ (v : View) (h : Held) where
   unfolding subcommand
   errs-subcommand =
       either (λ (s : Effect). s .executed ≡ [] → Errs v h s) (eqb (h .count) 0) (λ t e. errs 0 TooFewParameters)
-      (λ t. errs-looked (rowOf (codeIn h)))
+      (λ t. errs-looked (rowOf (v .frame .edition) (codeIn h)))
 
 -- where no ERROR is drawn, the values draw none
 pub no-fault : (v : View) (c : Command) (n : ℕ) (g : Governor) (h : Held) → faultOf v c n g h ≡ NoFault → valueFault v c h ≡ NoFault
 unfolding faultOf
 no-fault v c n g h =
     let P : Fault → Type 0 = λ f. f ≡ NoFault → valueFault v c h ≡ NoFault in
-    either P (not (agreed (v .frame .received) g)) (λ q e. cc)
+    either P (not (agreed (v .frame .edition) (v .frame .received) g)) (λ q e. cc)
     (λ q. either P (ltb (h .count) (n + 1)) (λ q e. cc) (λ q. either P (ltb (n + 1) (h .count)) (λ q e. cc) (λ q e. e)))

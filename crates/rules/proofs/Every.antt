@@ -1,4 +1,4 @@
--- Sentences of document 01 that range over all codes, keys, options or bytes: each once, over all of them.
+-- Sentences of documents 01 and 02 that range over all codes, keys, options or bytes: each once, over all of them.
 use mathlib.Core.Path.{_≡_, refl, ap, _∙_}
 use mathlib.Core.Bool.{Bool, true, false}
 use mathlib.Core.List.{List, [], _∷_, _++_}
@@ -13,23 +13,26 @@ use Rattle.telnet.specs.declared.Step.{Step}
 use Rattle.telnet.specs.declared.Verb.the-variants.{Will, Wont, Do, Dont}
 use Rattle.telnet.specs.Reader.{reader}
 use Rattle.telnet.specs.Writer.{subnegotiation, negotiation}
-use Rattle.words.specs.Words.{if_then_else_, between}
-use Rattle.words.proofs.Laws.{either}
+use Rattle.words.specs.Words.{if_then_else_, between, tabulate}
+use Rattle.words.proofs.Laws.{either, true-or-false}
 use Rattle.rules.specs.declared.Held.{Held}
 use Rattle.rules.specs.declared.Maps.{Maps}
+use Rattle.rules.specs.declared.Edition.{Edition}
+use Rattle.rules.specs.declared.Edition.the-variants.{June, September}
 use Rattle.rules.specs.declared.Governor.the-variants.{Ungoverned}
 use Rattle.rules.specs.declared.Refusal.the-variants.{Taken}
 use Rattle.rules.specs.declared.Facility.the-variants.{Editing, Erasing, Transmitting, Formatting}
 use Rattle.rules.specs.declared.Command.the-variants.{Facilities, Error}
 use Rattle.rules.specs.declared.Fault.the-variants.{TooFewParameters}
 use Rattle.rules.specs.Session.{View, State, viewOf, noMaps, switched, withX3, withReceived, freshPad, screen, withModes, withFrame}
-use Rattle.rules.specs.Refusal.{numberOf, verdict}
+use Rattle.rules.specs.Edition.{codeFor, meantBy, holds}
+use Rattle.rules.specs.Refusal.{numberOf, verdict, openTests}
 use Rattle.rules.specs.Effect.{Effect, bytes, saying, quiet}
 use Rattle.rules.specs.Command.{Row, row, never, Listed, listed, unlisted, rowOf, codeIn, faultOf}
 use Rattle.rules.specs.Telnet.{optionOf, isOn, accepts, turned, switchedOn, switchedOff, negotiated}
 use Rattle.rules.specs.Subcommand.{obeyed, erring, judged, looked, subcommand}
 use Rattle.rules.specs.Pad.{padAfter}
-use Rattle.rules.specs.Operation.{applied, happening, readerAfter, hostByte, running, pressTests, keyRan, opened}
+use Rattle.rules.specs.Operation.{applied, happening, readerAfter, hostByte, running, unless, pressTests, keyRan, opened}
 use Rattle.rules.specs.Call.{host, key, called}
 use Rattle.rules.specs.Executed.{oneOf}
 use Rattle.rules.specs.cases.Computing.{computing}
@@ -39,6 +42,7 @@ use Rattle.rules.specs.cases.Vocabulary.{
   Brief,
   brief,
   inFull,
+  flag,
   same,
   sameBeside,
   failures,
@@ -61,39 +65,78 @@ use Rattle.rules.specs.cases.Vocabulary.{
   seeing,
 }
 use Rattle.rules.proofs.Passing.{same-equal, below-passes, briefly, everywhere}
+use Rattle.rules.proofs.Editions.{two-editions}
 use Rattle.rules.proofs.Ready.{passing, ready, key-full, byte-full, pad-kept}
 -- the worked cases are checked first
-use Rattle.rules.proofs.Touched.{touched-holds}
+use Rattle.rules.proofs.June.{june-holds}
 
 -- ---- the 256 codes
 
--- how many parameters the document's list gives a code, if it has the code
-unfoldable pub listedParameters : ℕ → List ℕ
-listedParameters code =
+-- how many parameters document 01's list gives a code, if it has the code
+unfoldable pub listedParameters : Edition → ℕ → List ℕ
+listedParameters September code =
     if oneOf (8 ∷ 9 ∷ 10 ∷ 11 ∷ 12 ∷ 13 ∷ 14 ∷ 15 ∷ 16 ∷ 17 ∷ 19 ∷ 20 ∷ 21 ∷ 22 ∷ 23 ∷ 24 ∷ 25 ∷ 26 ∷ 27 ∷ 29 ∷ 30 ∷ 31 ∷ 32 ∷ 33 ∷ 34 ∷ 35 ∷ []) code
     then 0 ∷ []
     else if oneOf (1 ∷ 2 ∷ 3 ∷ 6 ∷ 7 ∷ 38 ∷ []) code then 1 ∷ []
     else if oneOf (4 ∷ 5 ∷ 37 ∷ 41 ∷ []) code then 2 ∷ []
     else if eqb code 36 then 4 ∷ []
     else []
+-- and the list of source document 000, with as many parameters as in document 01
+listedParameters June code =
+    if oneOf (8 ∷ 9 ∷ 10 ∷ 11 ∷ 12 ∷ 13 ∷ 14 ∷ 15 ∷ 16 ∷ 17 ∷ 19 ∷ 20 ∷ 21 ∷ 22 ∷ 23 ∷ 24 ∷ 25 ∷ 26 ∷ 28 ∷ 29 ∷ 30 ∷ 31 ∷ 32 ∷ 33 ∷ 34 ∷ []) code
+    then 0 ∷ []
+    else if oneOf (1 ∷ 2 ∷ 3 ∷ 6 ∷ 7 ∷ 37 ∷ []) code then 1 ∷ []
+    else if oneOf (4 ∷ 5 ∷ 36 ∷ 40 ∷ []) code then 2 ∷ []
+    else if eqb code 35 then 4 ∷ []
+    else []
 
 abbrev parametersIn : Listed → List ℕ
 parametersIn (listed r) = r .parameters ∷ []
 parametersIn unlisted = []
 
-codes-computed : failures (λ code. same (parametersIn (rowOf code)) (listedParameters code)) 256 ≡ []
+codes-computed : (e : Edition) → failures (λ code. same (parametersIn (rowOf e code)) (listedParameters e code)) 256 ≡ []
 unfolding computing seeing oneOf listedParameters
-codes-computed = refl
+codes-computed June = refl
+codes-computed September = refl
 
 -- each code is in the list with its parameters, or is not
-pub every-code : (code : ℕ) → code < 256 → parametersIn (rowOf code) ≡ listedParameters code
-every-code code h = same-equal _ _ (below-passes _ 256 codes-computed code h)
+pub every-code : (e : Edition) (code : ℕ) → code < 256 → parametersIn (rowOf e code) ≡ listedParameters e code
+every-code e code h = same-equal _ _ (below-passes _ 256 (codes-computed e) code h)
+
+-- the code of ERROR
+abbrev errorCode : Edition → ℕ
+errorCode June = 40
+errorCode September = 41
+
+error-code : (e : Edition) → codeFor e 41 ≡ errorCode e
+unfolding codeFor
+error-code June = refl
+error-code September = refl
+
+-- the codes 1 to 40 of June, and 1 to 41 of September, are those of a command
+abbrev last : Edition → ℕ
+last June = 40
+last September = 41
+
+held-computed : (e : Edition)
+    → failures (λ code. eqb (flag (holds e (meantBy e code))) (flag (between 1 (last e) code))) 256 ≡ []
+unfolding computing seeing
+held-computed June = refl
+held-computed September = refl
+
+pub every-held : (e : Edition) (code : ℕ) → code < 256 → flag (holds e (meantBy e code)) ≡ flag (between 1 (last e) code)
+every-held e code h = eqb-true _ _ (below-passes _ 256 (held-computed e) code h)
+
+-- and June's mean document 01's 1 to 26 and 28 to 41, in their order
+pub june-list : tabulate (meantBy June) 1 40 ≡ tabulate (λ n. n) 1 26 ++ tabulate (λ n. n) 28 14
+unfolding computing
+june-list = refl
 
 -- and one that is not draws ERROR 2, whatever follows it
-pub every-other-code : (v : View) (h : Held) → eqb (h .count) 0 ≡ false → rowOf (codeIn h) ≡ unlisted
-    → subcommand v h ≡ saying v (bytes (subnegotiation 20 (41 ∷ codeIn h ∷ 2 ∷ [])) ∷ [])
+pub every-other-code : (v : View) (h : Held) → eqb (h .count) 0 ≡ false → rowOf (v .frame .edition) (codeIn h) ≡ unlisted
+    → subcommand v h ≡ saying v (bytes (subnegotiation 20 (errorCode (v .frame .edition) ∷ codeIn h ∷ 2 ∷ [])) ∷ [])
 unfolding subcommand looked
-every-other-code v h n e = rw (n, e)
+every-other-code v h n e = rw (n, e, error-code (v .frame .edition))
 
 -- ---- the 256 keys
 
@@ -230,7 +273,7 @@ endTold r s =
     let one = applied s (readerAfter (s .session .reader) 240) (padAfter (s .session .frame) (s .session .pad) (End 20)) effect in
     brief 0 1 (one .state) (one .replies ++ [])
 
-end-told : (r : Row) (held : List ℕ) → rowOf (codeIn ((holding held) .session .reader .held)) ≡ listed r
+end-told : (r : Row) (held : List ℕ) → rowOf September (codeIn ((holding held) .session .reader .held)) ≡ listed r
     → byteTold (holding held) 240 ≡ endTold r (holding held)
 unfolding running hostByte happening reader subcommand looked
 end-told r held e = rw e
@@ -238,10 +281,10 @@ end-told r held e = rw e
 -- no byte held hinders the call, and the code is in the list
 pub record Ended (e : Ending) (n : ℕ) : Type 0 where
   pub passes : ready (holding (e .held n)) (replicate 18 lent) ≡ true
-  pub found : rowOf (codeIn ((holding (e .held n)) .session .reader .held)) ≡ listed (rowIs (rowOf (e .code)))
+  pub found : rowOf September (codeIn ((holding (e .held n)) .session .reader .held)) ≡ listed (rowIs (rowOf September (e .code)))
 
 abbrev endTest : Ending → ℕ → Bool
-endTest e = let r = rowIs (rowOf (e .code)) in λ n. sameBeside (endTold r (holding (e .held n))) ((endSweep e) .shows n)
+endTest e = let r = rowIs (rowOf September (e .code)) in λ n. sameBeside (endTold r (holding (e .held n))) ((endSweep e) .shows n)
 
 end-swept : (e : Ending) → ((n : ℕ) → Ended e n) → ifNone (failures (endTest e) 256) (e .title) → Everywhere (endSweep e)
 unfolding padAfter
@@ -250,7 +293,7 @@ end-swept e d p =
     (record {
       full = λ n.
           byte-full (holding (e .held n)) 18 (d n .passes) 240
-          ∙ ap (inFull 18) (end-told (rowIs (rowOf (e .code))) (e .held n) (d n .found));
+          ∙ ap (inFull 18) (end-told (rowIs (rowOf September (e .code))) (e .held n) (d n .found));
       pad = λ n h. refl;
       beside = p;
     })
@@ -351,6 +394,10 @@ every-byte = (
 abbrev answered : View → Maps → List ℕ → Effect
 answered v received payload = saying (withFrame v (withReceived (v .frame) received)) (bytes (det payload) ∷ [])
 
+abbrev firstFormatMap : Edition → ℕ
+firstFormatMap June = 144
+firstFormatMap September = 208
+
 pub record Constant (v : View) (h : Held) : Type 0 where
   pub edit-map : let m = v .frame .received in obeyed v (Facilities Editing) h
       ≡ answered v (maps (getD (h .bytes) 1 0) (m .erase) (m .transmit) (m .format0) (m .format1)) (1 ∷ 126 ∷ [])
@@ -359,12 +406,27 @@ pub record Constant (v : View) (h : Held) : Type 0 where
   pub transmit-map : let m = v .frame .received in obeyed v (Facilities Transmitting) h
       ≡ answered v (maps (m .edit) (m .erase) (getD (h .bytes) 1 0) (m .format0) (m .format1)) (3 ∷ 63 ∷ [])
   pub format-map : let m = v .frame .received in obeyed v (Facilities Formatting) h
-      ≡ answered v (maps (m .edit) (m .erase) (m .transmit) (getD (h .bytes) 1 0) (getD (h .bytes) 2 0)) (4 ∷ 208 ∷ 121 ∷ [])
+      ≡ answered v (maps (m .edit) (m .erase) (m .transmit) (getD (h .bytes) 1 0) (getD (h .bytes) 2 0))
+      (4 ∷ firstFormatMap (v .frame .edition) ∷ 121 ∷ [])
   pub error-nothing : obeyed v Error h ≡ quiet v
+
+format-kept : (v : View) (h : Held) (e : Edition) → v .frame .edition ≡ e → let m = v .frame .received in obeyed v (Facilities Formatting) h
+    ≡ answered v (maps (m .edit) (m .erase) (m .transmit) (getD (h .bytes) 1 0) (getD (h .bytes) 2 0))
+    (4 ∷ firstFormatMap (v .frame .edition) ∷ 121 ∷ [])
+unfolding computing
+format-kept v h June q = rw q
+format-kept v h September q = rw q
 
 pub every-map : (v : View) (h : Held) → Constant v h
 unfolding computing
-every-map v h = record { edit-map = refl; erase-map = refl; transmit-map = refl; format-map = refl; error-nothing = refl }
+every-map v h =
+    record {
+      edit-map = refl;
+      erase-map = refl;
+      transmit-map = refl;
+      format-map = format-kept v h (v .frame .edition) refl;
+      error-nothing = refl;
+    }
 
 -- ---- every option, with each verb, on or off, protection suppressed or not
 
@@ -411,7 +473,7 @@ every-option v =
 -- ---- every width and height: open refuses 1 outside 1 to 132 and 1 to 64, and 2 within, no cell being lent
 
 abbrev openSeen : ℕ → ℕ → ℕ
-openSeen m n = numberOf ((opened m n (screen [] [] [])) .answer .refusal)
+openSeen m n = numberOf ((opened m n 732 (screen [] [] [])) .answer .refusal)
 
 widths : failures (λ m. eqb (openSeen m 1) (if between 1 132 m then 2 else 1)) 256 ≡ []
 unfolding computing seeing
@@ -426,3 +488,11 @@ every-width m h = eqb-true _ _ (below-passes _ 256 widths m h)
 
 pub every-height : (n : ℕ) → n < 256 → openSeen 1 n ≡ (if between 1 64 n then 2 else 1)
 every-height n h = eqb-true _ _ (below-passes _ 256 heights n h)
+
+-- every number named as an edition: 12 unless it is 731 or 732, and then 2
+abbrev namedSeen : ℕ → ℕ
+namedSeen named = numberOf ((opened 1 1 named (screen [] [] [])) .answer .refusal)
+
+pub every-edition : (named : ℕ) → namedSeen named ≡ (if between 731 732 named then 2 else 12)
+unfolding opened unless verdict openTests
+every-edition named = rw (two-editions named) (true-or-false (between 731 732 named) (λ e. rw e) (λ e. rw e))

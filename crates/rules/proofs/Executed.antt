@@ -11,6 +11,8 @@ use Rattle.telnet.specs.declared.Event.{Event}
 use Rattle.telnet.specs.declared.Event.the-variants.{Nothing, Data, Negotiation, Begin, Sub, End, EndBare, Lost}
 use Rattle.words.proofs.Laws.{either, true-or-false, and-false}
 use Rattle.rules.specs.declared.Held.{Held}
+use Rattle.rules.specs.declared.Edition.{Edition}
+use Rattle.rules.specs.declared.Edition.the-variants.{June, September}
 use Rattle.rules.specs.declared.Reader.{Reader}
 use Rattle.rules.specs.declared.Pad.{Pad}
 use Rattle.rules.specs.declared.Fault.{Fault}
@@ -19,6 +21,7 @@ use Rattle.rules.specs.declared.Refusal.the-variants.{Taken}
 use Rattle.rules.specs.Number.{detOption}
 use Rattle.rules.specs.Session.{View, State, printable}
 use Rattle.rules.specs.Refusal.{isTaken}
+use Rattle.rules.specs.Edition.{codeFor}
 use Rattle.rules.specs.Effect.{Effect, Executed}
 use Rattle.rules.specs.Facility.{agreed}
 use Rattle.rules.specs.Command.{Row, rows, Listed, listed, unlisted, rowOf, codeIn, reaches, reachesPast, faultOf}
@@ -27,23 +30,27 @@ use Rattle.rules.specs.Telnet.{optionOf, isOn, accepts, switchedOn, swit
 use Rattle.rules.specs.Pad.{passes}
 use Rattle.rules.specs.Subcommand.{judged, looked, subcommand}
 use Rattle.rules.specs.Operation.{happening, hostByte, running, unless, hostBytes, hostRefusal}
-use Rattle.rules.specs.Call.{Call, host, key, called, executedBy, executedOf}
+use Rattle.rules.specs.Call.{Call, host, key, called, left, executedBy, executedOf}
 use Rattle.rules.specs.Executed.{oneOf, isSeven, Seven, SubcommandExecutes, EventExecutes, CallExecutes, noneSeven, PremiseInNumbers}
 use Rattle.rules.specs.Noninterference.{noneReaches}
 use Rattle.rules.proofs.All.{All, all-append, all-equal}
 use Rattle.rules.proofs.Rows.{in-list, found-code}
+use Rattle.rules.proofs.Editions.{code-back}
+use Rattle.rules.proofs.Causes.{edition-byte, edition-kept}
 
 -- ---- the seven
 
--- row by row, whatever is held
-pub seven-rows : (h : Held) → map (λ r. reachesPast r h) rows ≡ map (λ r. isSeven (r .code) (getD (h .bytes) 1 0)) rows
-unfolding rows reaches isSeven oneOf
-seven-rows h = refl
+-- row by row, by the code that the edition has for it, whatever is held
+pub seven-rows : (e : Edition) (h : Held)
+    → map (λ r. reachesPast r h) rows ≡ map (λ r. isSeven e (codeFor e (r .code)) (getD (h .bytes) 1 0)) rows
+unfolding rows reaches isSeven oneOf codeFor
+seven-rows June h = refl
+seven-rows September h = refl
 
 pub seven : Seven
-seven code r h e =
-    let row = in-list (λ r. reachesPast r h ≡ isSeven (r .code) (getD (h .bytes) 1 0)) (all-equal _ _ rows (seven-rows h)) code in
-    rw e at row ∙ ap (λ c. isSeven c (getD (h .bytes) 1 0)) (found-code code r e)
+seven e code r h q =
+    let row = in-list (λ r. reachesPast r h ≡ isSeven e (codeFor e (r .code)) (getD (h .bytes) 1 0)) (all-equal _ _ rows (seven-rows e h)) e code in
+    rw q at row ∙ ap (λ c. isSeven e c (getD (h .bytes) 1 0)) (ap (codeFor e) (found-code e code r q) ∙ code-back e code)
 
 -- ---- a subcommand
 
@@ -60,11 +67,12 @@ module _ (v : View) (h : Held) where
   erring-none r BadMap p = refl
 
   -- no command byte, or a code as it is looked up
-  known-none : (l : Listed) → rowOf (codeIn h) ≡ l → (looked v l h) .executed ≡ [] → (subcommand v h) .executed ≡ []
+  known-none : (l : Listed) → rowOf (v .frame .edition) (codeIn h) ≡ l → (looked v l h) .executed ≡ [] → (subcommand v h) .executed ≡ []
   unfolding subcommand
   known-none l e q = either (λ (s : Effect). s .executed ≡ []) (eqb (h .count) 0) (λ t. refl) (λ t. rw e q)
 
-  unagreed : (r : Row) → agreed (v .frame .received) (r .governor) ≡ false → faultOf v (r .command) (r .parameters) (r .governor) h ≡ NotAgreed
+  unagreed : (r : Row) → agreed (v .frame .edition) (v .frame .received) (r .governor) ≡ false
+      → faultOf v (r .command) (r .parameters) (r .governor) h ≡ NotAgreed
   unfolding faultOf
   unagreed r a = rw a
 
@@ -153,14 +161,14 @@ module _ (s : State) where
 -- ---- the premise of demand 3
 
 -- what is executed stands in the list, under the code that it came with
-abbrev Found : Executed → Type 0
-Found e = rowOf (codeIn (e .held)) ≡ listed (e .row)
-
-abbrev AllFound : Effect → Type 0
-AllFound e = All Found (e .executed)
+abbrev Found : Edition → Executed → Type 0
+Found edition e = rowOf edition (codeIn (e .held)) ≡ listed (e .row)
 
 module _ (v : View) (h : Held) where
-  found-judged : (r : Row) → rowOf (codeIn h) ≡ listed r → (f : Fault) → AllFound (judged v r h f)
+  abbrev AllFound : Effect → Type 0
+  AllFound e = All (Found (v .frame .edition)) (e .executed)
+
+  found-judged : (r : Row) → rowOf (v .frame .edition) (codeIn h) ≡ listed r → (f : Fault) → AllFound (judged v r h f)
   unfolding judged
   found-judged r e NoFault = (e, tt)
   found-judged r e OffScreen = tt
@@ -171,7 +179,7 @@ module _ (v : View) (h : Held) where
   found-judged r e BadValue = tt
   found-judged r e BadMap = tt
 
-  found-looked : (l : Listed) → rowOf (codeIn h) ≡ l → AllFound (looked v l h)
+  found-looked : (l : Listed) → rowOf (v .frame .edition) (codeIn h) ≡ l → AllFound (looked v l h)
   unfolding looked
   found-looked unlisted e = tt
   found-looked (listed r) e = found-judged r e _
@@ -192,25 +200,34 @@ module _ (v : View) (h : Held) where
     found-event EndBare = tt
     found-event Lost = tt
 
-found-run : (s : State) (bs : List ℕ) → All Found ((running s bs) .executed)
+-- under the edition of the state that it begins with
+abbrev FoundFrom : State → List Executed → Type 0
+FoundFrom s es = All (Found (s .session .frame .edition)) es
+
+found-run : (s : State) (bs : List ℕ) → FoundFrom s ((running s bs) .executed)
 unfolding running hostByte
 found-run s [] = tt
-found-run s (b ∷ bs) = all-append Found ((hostByte s b) .executed) _ (found-event _ _ _ _ refl _) (found-run _ bs)
+found-run s (b ∷ bs) =
+    all-append (Found (s .session .frame .edition)) ((hostByte s b) .executed) _ (found-event _ _ _ _ refl _)
+    (rw (edition-byte s b) at (found-run ((hostByte s b) .state) bs))
 
-found-call : (s : State) (c : Call) → All Found (executedBy s c)
+found-call : (s : State) (c : Call) → FoundFrom s (executedBy s c)
 unfolding executedBy
-found-call s (host input reply) = either (All Found) (isTaken (hostRefusal s reply)) (λ e. found-run s _) (λ e. tt)
+found-call s (host input reply) = either (FoundFrom s) (isTaken (hostRefusal s reply)) (λ e. found-run s _) (λ e. tt)
 found-call s (key k reply) = tt
 
-found-calls : (s : State) (cs : List Call) → All Found (executedOf s cs)
+found-calls : (s : State) (cs : List Call) → FoundFrom s (executedOf s cs)
 unfolding executedOf
 found-calls s [] = tt
-found-calls s (c ∷ cs) = all-append Found (executedBy s c) _ (found-call s c) (found-calls _ cs)
+found-calls s (c ∷ cs) =
+    all-append (Found (s .session .frame .edition)) (executedBy s c) _ (found-call s c)
+    (rw (edition-kept s c) at (found-calls (left (called s c)) cs))
 
-in-numbers : (es : List Executed) → All Found es → noneReaches es ≡ noneSeven es
+in-numbers : (edition : Edition) (es : List Executed) → All (Found edition) es → noneReaches es ≡ noneSeven edition es
 unfolding noneReaches noneSeven
-in-numbers [] p = refl
-in-numbers (e ∷ es) p = ap₂ _&&_ (ap not (seven (codeIn (e .held)) (e .row) (e .held) (p .0))) (in-numbers es (p .1))
+in-numbers edition [] p = refl
+in-numbers edition (e ∷ es) p =
+    ap₂ _&&_ (ap not (seven edition (codeIn (e .held)) (e .row) (e .held) (p .0))) (in-numbers edition es (p .1))
 
 pub premise-in-numbers : PremiseInNumbers
-premise-in-numbers s calls = in-numbers _ (found-calls s calls)
+premise-in-numbers s calls = in-numbers _ _ (found-calls s calls)

@@ -6,8 +6,10 @@ pub mod Slow
 pub mod Agreed
 pub mod Lines
 pub mod Touched
+pub mod June
 pub mod All
 pub mod Rows
+pub mod Editions
 pub mod Every
 pub mod Options
 pub mod Executed

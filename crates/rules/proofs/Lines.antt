@@ -7,6 +7,7 @@ use Prim.Native.String.{String}
 use lib.ListN.{length, replicate}
 use Rattle.screen.specs.declared.cell.Place.{Place}
 use Rattle.screen.specs.Cells.{place}
+use Rattle.rules.specs.declared.Edition.the-variants.{September}
 use Rattle.rules.specs.Session.{State, freshFrame, placed}
 use Rattle.rules.specs.Cursor.{skippedToChar}
 use Rattle.rules.specs.cases.Computing.{computing}
@@ -80,7 +81,7 @@ lines-hold = each-equal lines-cases lines-pass
 -- ---- 7 on screens of other sizes: m by n, the cursor at (x,y), the parameter
 
 abbrev skipped : ℕ → ℕ → ℕ → ℕ → ℕ → Place
-skipped m n x y p = skippedToChar (placed (freshFrame m n) (place x y)) p
+skipped m n x y p = skippedToChar (placed (freshFrame m n September) (place x y)) p
 
 pub skips-by-lines :
     skipped 80 24 5 0 100 ∷ skipped 80 24 5 23 80 ∷ skipped 132 64 0 0 255 ∷ skipped 80 24 5 7 79 ∷ []

@@ -20,9 +20,12 @@ use Rattle.pad.specs.declared.message.Stage.the-variants.{Code, Parameter, Valu
 use Rattle.rules.specs.declared.Pad.{Pad}
 use Rattle.screen.specs.Cells.{place}
 use Rattle.words.proofs.Laws.{not-both, true-or-false, less-or-not, and-left, and-right}
+use Rattle.rules.specs.declared.Edition.{Edition}
+use Rattle.rules.specs.declared.Edition.the-variants.{June, September}
 use Rattle.rules.specs.declared.Refusal.{Refusal}
 use Rattle.rules.specs.Session.{Screen, State, cells, freshFrame, fresh, session, screen, state}
-use Rattle.rules.specs.Refusal.{numberOf, isTaken, verdict, sizeTests}
+use Rattle.rules.specs.Edition.{editionOf, nameOf}
+use Rattle.rules.specs.Refusal.{numberOf, isTaken}
 use Rattle.rules.specs.Operation.{
   Ran,
   Outcome,
@@ -112,6 +115,11 @@ flag-back : (b : Bool) → eqb (flag b) 1 ≡ b
 flag-back true = refl
 flag-back false = refl
 
+edition-back : (e : Edition) → editionOf (nameOf e) ≡ e
+unfolding editionOf nameOf
+edition-back June = refl
+edition-back September = refl
+
 abbrev stageOf : ℕ → ℕ → ℕ → Stage
 stageOf n code parameter = if eqb n 0 then Code else if eqb n 1 then Parameter code else Value code parameter
 
@@ -129,22 +137,23 @@ briefOf ns pad held chars attrs marks replies =
     (record {
       width = getD ns 2 0;
       height = getD ns 3 0;
-      cursor = place (getD ns 4 0) (getD ns 5 0);
-      det = eqb (getD ns 6 0) 1;
-      x3 = eqb (getD ns 7 0) 1;
-      suppressed = eqb (getD ns 8 0) 1;
+      edition = editionOf (getD ns 4 0);
+      cursor = place (getD ns 5 0) (getD ns 6 0);
+      det = eqb (getD ns 7 0) 1;
+      x3 = eqb (getD ns 8 0) 1;
+      suppressed = eqb (getD ns 9 0) 1;
       received = record {
-        edit = getD ns 9 0;
-        erase = getD ns 10 0;
-        transmit = getD ns 11 0;
-        format0 = getD ns 12 0;
-        format1 = getD ns 13 0;
+        edit = getD ns 10 0;
+        erase = getD ns 11 0;
+        transmit = getD ns 12 0;
+        format0 = getD ns 13 0;
+        format1 = getD ns 14 0;
       };
     })
     (record {
-      phase = phaseOf (getD ns 17 0) (getD ns 18 0);
-      held = record { bytes = held; count = getD ns 16 0 };
-      cr = eqb (getD ns 14 0) 1;
+      phase = phaseOf (getD ns 18 0) (getD ns 19 0);
+      held = record { bytes = held; count = getD ns 17 0 };
+      cr = eqb (getD ns 15 0) 1;
     })
     pad)
     (screen chars attrs marks))
@@ -169,7 +178,7 @@ unfolding numbers
 brief-back a =
     let s = a .left .session in
     let f = s .frame in
-    rw (flag-back (f .det), flag-back (f .x3), flag-back (f .suppressed), flag-back (s .reader .cr), phase-back (s .reader .phase))
+    rw (edition-back (f .edition), flag-back (f .det), flag-back (f .x3), flag-back (f .suppressed), flag-back (s .reader .cr), phase-back (s .reader .phase))
 
 -- ---- equal where the tests pass
 
@@ -193,7 +202,7 @@ pad-equal p q len e =
 
 len-equal : (a b : Brief) → numbers a ≡ numbers b → a .left .session .pad .line .len ≡ b .left .session .pad .line .len
 unfolding numbers
-len-equal a b e = ap (λ ns. getD ns 15 0) e
+len-equal a b e = ap (λ ns. getD ns 16 0) e
 
 beside-equal : (a b : Brief) → a .left .session .pad ≡ b .left .session .pad → sameBeside a b ≡ true → a ≡ b
 unfolding sameBeside
@@ -275,11 +284,12 @@ call-tell s (heard input) room =
     let buffer = replicate room lent in ends-tell (hostRefusal s buffer) s room _ (hostRan s buffer input)
 call-tell s (struck k) room = ends-tell (keyRefusal s (replicate room lent) k) s room _ (keyRan s k)
 
-open-tell : (m n : ℕ) (b : Screen) → let o = opened m n b in look o ≡ inFull 0 (tell o)
+open-tell : (m n named : ℕ) (b : Screen) → let o = opened m n named b in look o ≡ inFull 0 (tell o)
 unfolding opened
-open-tell m n b =
-    let done : Ran = record { state = state (fresh m n) (blank (cells (freshFrame m n))); replies = []; executed = [] } in
-    ends-tell (verdict (sizeTests (freshFrame m n) b)) (state (fresh 0 0) b) 0 _ done
+open-tell m n named b =
+    let f = freshFrame m n (editionOf named) in
+    let done : Ran = record { state = state (fresh m n (editionOf named)) (blank (cells f)); replies = []; executed = [] } in
+    ends-tell _ _ 0 _ done
 
 trials-tell : (s : State) (ts : List Trial) → observedIn s ts ≡ fullIn ts (toldIn s ts)
 unfolding observedIn toldIn fullIn
@@ -288,7 +298,7 @@ trials-tell s (t ∷ ts) = ap₂ _∷_ (call-tell s (t .given) (t .room)) (trial
 
 case-tell : (c : Case) → observedOf c ≡ fullOf c (told c)
 case-tell (case title s ts) = trials-tell s ts
-case-tell (opening title m n b refusal s) = ap (λ o. o ∷ []) (open-tell m n b)
+case-tell (opening title m n named b refusal s) = ap (λ o. o ∷ []) (open-tell m n named b)
 
 case-equal : (c : Case) → (if sameAll (told c) (stated c) then Unit {0} else Fails (titleOf c)) → observedOf c ≡ fullOf c (stated c)
 case-equal c p = case-tell c ∙ ap (fullOf c) (told-stated c p)

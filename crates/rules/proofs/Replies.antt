@@ -21,15 +21,22 @@ use Rattle.screen.specs.Fields.{startsAt, opensAt, fieldEnd}
 use Rattle.edit.specs.Edits.{someMarked, textOf}
 use Rattle.words.proofs.Laws.{either, true-or-false}
 use Rattle.screen.proofs.FieldLaws.{end-gt}
+use Rattle.rules.specs.declared.Edition.{Edition}
+use Rattle.rules.specs.declared.Edition.the-variants.{June, September}
+use Rattle.rules.specs.declared.Facility.the-variants.{Formatting}
 use Rattle.rules.specs.Session.{Screen, replyRoom, freshFrame}
+use Rattle.rules.specs.Number.{fieldSeparator}
+use Rattle.rules.specs.Edition.{codeFor}
+use Rattle.rules.specs.Facility.{ownMap}
 use Rattle.rules.specs.Effect.{Part, bytes, text, whereMarked, message, spelled, spelledAll}
 use Rattle.rules.specs.Subcommand.{prefaceBytes, fieldTexts, withoutFirst, modifiedTexts}
 -- the sentences of document 01 are checked first, so that a wrong rule is refused there
 use Rattle.rules.proofs.Causes.{nothing-else}
+use Rattle.rules.proofs.Editions.{not-iac}
 
 -- a reply that fits into the reply room of a screen m cells wide and n lines high
 abbrev pub InRoom : ℕ → ℕ → List Part → Type 0
-InRoom m n ps = (b : Screen) → length (b .chars) ≡ n * m → length (spelledAll b ps) ≤ replyRoom (freshFrame m n)
+InRoom m n ps = (b : Screen) → length (b .chars) ≡ n * m → length (spelledAll b ps) ≤ replyRoom (freshFrame m n September)
 
 -- what may follow a preface, on a screen of so many cells
 abbrev pub Follows : ℕ → List Part → Type 0
@@ -63,14 +70,27 @@ unfolding subnegotiation doubled
 place-message code x y e hx hy = rw (e, ne-eqb x 255 (λ q. omega arith), ne-eqb y 255 (λ q. omega arith))
 
 -- an ERROR, whatever the command
-pub error-message : (command number : ℕ) → eqb number 255 ≡ false → length (subnegotiation 20 (41 ∷ command ∷ number ∷ [])) ≤ 9
+pub error-message : (code command number : ℕ) → eqb code 255 ≡ false → eqb number 255 ≡ false
+    → length (subnegotiation 20 (code ∷ command ∷ number ∷ [])) ≤ 9
 unfolding subnegotiation doubled
-error-message command number e = rw e (true-or-false (eqb command 255) (λ q. rw q (omega arith)) (λ q. rw q (omega arith)))
+error-message code command number d e =
+    rw (d, e) (true-or-false (eqb command 255) (λ q. rw q (omega arith)) (λ q. rw q (omega arith)))
 
--- a function key, whatever its number
-pub function-message : (n : ℕ) → length (subnegotiation 20 (40 ∷ n ∷ [])) ≤ 9
+-- a code and one byte, whatever it is
+pub byte-message : (code b : ℕ) → eqb code 255 ≡ false → length (subnegotiation 20 (code ∷ b ∷ [])) ≤ 9
 unfolding subnegotiation doubled
-function-message n = true-or-false (eqb n 255) (λ q. rw q (omega arith)) (λ q. rw q (omega arith))
+byte-message code b e = rw e (true-or-false (eqb b 255) (λ q. rw q (omega arith)) (λ q. rw q (omega arith)))
+
+-- the format map of two bytes
+pub format-message : (e : Edition) → length (subnegotiation 20 (ownMap e Formatting)) ≤ 9
+unfolding ownMap subnegotiation doubled
+format-message June = omega arith
+format-message September = omega arith
+
+-- what stands between two fields
+separator-message : (e : Edition) → length (subnegotiation 20 (codeFor e fieldSeparator ∷ [])) ≡ 6
+unfolding subnegotiation doubled
+separator-message e = rw (not-iac e fieldSeparator (omega arith))
 
 -- a payload is at most doubled
 doubled-most : (bs : List ℕ) → length (doubled bs) ≤ 2 * length bs
@@ -135,41 +155,43 @@ marked-most : (marked : Bool) (bs cs : List ℕ) (most : ℕ) → length bs + le
 marked-most true bs cs most h = simp length-append (omega arith)
 marked-most false bs cs most h = omega arith
 
-module _ (attrs : List ℕ) (b : Screen) where
+module _ (e : Edition) (attrs : List ℕ) (b : Screen) where
   -- 21: a separator of six bytes
-  fields-most : (i n : ℕ) → i + n ≡ length attrs → Most attrs b 6 i n (fieldTexts attrs i n)
-  unfolding fieldTexts spelledAll spelled firstOf subnegotiation doubled
+  fields-most : (i n : ℕ) → i + n ≡ length attrs → Most attrs b 6 i n (fieldTexts e attrs i n)
+  unfolding fieldTexts spelledAll spelled firstOf
   fields-most i zero h = omega arith
   fields-most i (suc n) h =
-      most-next attrs b 6 i n (message (39 ∷ []) ∷ text i (fieldEnd attrs i) ∷ []) _ h (fields-most (suc i) n (omega arith))
-      (simp length-append (omega (arith, text-most i (fieldEnd attrs i) (b .chars) .0)))
+      most-next attrs b 6 i n (message (codeFor e fieldSeparator ∷ []) ∷ text i (fieldEnd attrs i) ∷ []) _ h
+      (fields-most (suc i) n (omega arith))
+      (simp length-append (omega (arith, separator-message e, text-most i (fieldEnd attrs i) (b .chars) .0)))
 
   -- 27: a preface of eight bytes
-  modified-most : (width i n : ℕ) → ((j : ℕ) → j < length attrs → length (prefaceBytes (placeOf width j)) ≡ 8) → i + n ≡ length attrs
-      → Most attrs b 8 i n (modifiedTexts width attrs i n)
+  modified-most : (width i n : ℕ) → ((j : ℕ) → j < length attrs → length (prefaceBytes e (placeOf width j)) ≡ 8) → i + n ≡ length attrs
+      → Most attrs b 8 i n (modifiedTexts e width attrs i n)
   unfolding modifiedTexts spelledAll spelled firstOf
   modified-most width i zero long h = omega arith
   modified-most width i (suc n) long h =
-      most-next attrs b 8 i n (whereMarked (prefaceBytes (placeOf width i)) i (fieldEnd attrs i) ∷ []) _ h
+      most-next attrs b 8 i n (whereMarked (prefaceBytes e (placeOf width i)) i (fieldEnd attrs i) ∷ []) _ h
       (modified-most width (suc i) n long (omega arith))
-      (marked-most (someMarked (b .marks) i (fieldEnd attrs i)) (prefaceBytes (placeOf width i)) (textOf i (fieldEnd attrs i) (b .chars))
+      (marked-most (someMarked (b .marks) i (fieldEnd attrs i)) (prefaceBytes e (placeOf width i)) (textOf i (fieldEnd attrs i) (b .chars))
       (8 + (fieldEnd attrs i - i)) (omega (arith, long i (omega arith), text-most i (fieldEnd attrs i) (b .chars) .0)))
 
   -- the first separator is not sent
   fields-less : (i n : ℕ)
-      → length (spelledAll b (withoutFirst (fieldTexts attrs i n))) ≤ length (spelledAll b (fieldTexts attrs i n)) - 6
-  unfolding fieldTexts spelledAll spelled subnegotiation doubled
+      → length (spelledAll b (withoutFirst (fieldTexts e attrs i n))) ≤ length (spelledAll b (fieldTexts e attrs i n)) - 6
+  unfolding fieldTexts spelledAll spelled
   fields-less i zero = omega arith
   fields-less i (suc n) =
       either (λ ps. length (spelledAll b (withoutFirst ps)) ≤ length (spelledAll b ps) - 6) (opensAt attrs i)
-      (λ o. omega arith) (λ o. fields-less (suc i) n)
+      (λ o. simp length-append (omega (arith, separator-message e))) (λ o. fields-less (suc i) n)
 
 -- all unprotected fields
-pub fields-text : (attrs : List ℕ) → 0 < length attrs → Follows (length attrs) (withoutFirst (fieldTexts attrs 0 (length attrs)))
-fields-text attrs h b e =
-    omega (arith, fields-less attrs b 0 (length attrs), fields-most attrs b 0 (length attrs) (omega arith))
+pub fields-text : (e : Edition) (attrs : List ℕ) → 0 < length attrs
+    → Follows (length attrs) (withoutFirst (fieldTexts e attrs 0 (length attrs)))
+fields-text e attrs h b l =
+    omega (arith, fields-less e attrs b 0 (length attrs), fields-most e attrs b 0 (length attrs) (omega arith))
 
 -- those with a marked cell
-pub modified-text : (m n : ℕ) (attrs : List ℕ) (width : ℕ) → length attrs ≡ n * m
-    → ((j : ℕ) → j < length attrs → length (prefaceBytes (placeOf width j)) ≡ 8) → InRoom m n (modifiedTexts width attrs 0 (length attrs))
-modified-text m n attrs width e long b l = omega (arith, modified-most attrs b width 0 (length attrs) long (omega arith))
+pub modified-text : (m n : ℕ) (e : Edition) (attrs : List ℕ) (width : ℕ) → length attrs ≡ n * m
+    → ((j : ℕ) → j < length attrs → length (prefaceBytes e (placeOf width j)) ≡ 8) → InRoom m n (modifiedTexts e width attrs 0 (length attrs))
+modified-text m n e attrs width q long b l = omega (arith, modified-most e attrs b width 0 (length attrs) long (omega arith))

@@ -9,6 +9,7 @@ use borrow.Author.Tests.{leb-true, le-leb}
 use lib.Dec.{leb}
 use lib.ListN.{length, take, length-append, length-drop}
 use Rattle.words.proofs.Laws.{either}
+use Rattle.rules.specs.declared.Edition.the-variants.{September}
 use Rattle.rules.specs.declared.Refusal.the-variants.{Taken}
 use Rattle.rules.specs.Session.{State, replyRoom, freshFrame}
 use Rattle.rules.specs.Refusal.{isTaken}
@@ -23,7 +24,7 @@ use Rattle.rules.proofs.Sound.{Sound, sound-byte, Accepted, sound-of}
 -- ---- one reply
 
 module _ {m n : ℕ} {s : State} (k : Sound m n s) where
-  pub room-is : replyRoom (s .session .frame) ≡ replyRoom (freshFrame m n)
+  pub room-is : replyRoom (s .session .frame) ≡ replyRoom (freshFrame m n September)
   room-is = rw (k .view .sizes .width, k .view .sizes .height)
 
   -- of a host byte

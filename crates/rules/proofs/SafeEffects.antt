@@ -29,6 +29,7 @@ use Rattle.rules.specs.declared.Fault.{Fault}
 use Rattle.rules.specs.declared.Fault.the-variants.{NoFault, NotAgreed, UnknownCode, OffScreen, TooManyParameters, TooFewParameters, BadValue, BadMap}
 use Rattle.rules.specs.declared.Key.{Key}
 use Rattle.rules.specs.declared.Key.the-variants.{Typed, Back, Tab, Send, Delete, Function, Meaningless}
+use Rattle.rules.specs.declared.Edition.{Edition}
 use Rattle.rules.specs.Session.{View, cursorCell, screenEnd}
 use Rattle.rules.specs.Number.{detOption}
 use Rattle.rules.specs.Command.{Row, rows, Listed, listed, unlisted, reaches, reachesPast}
@@ -97,16 +98,16 @@ module _ (attrs : List ℕ) where
   open-span : (suppressed : Bool) → suppressed ≡ false → (i stop : ℕ) → protectedAt attrs i ≡ false → Open attrs i (spanEnd suppressed attrs i stop)
   open-span suppressed protecting i stop u = rw protecting (λ j. span-open attrs i stop j u)
 
-  safe-texts : (i n : ℕ) → All (SafePart attrs) (fieldTexts attrs i n)
+  safe-texts : (e : Edition) (i n : ℕ) → All (SafePart attrs) (fieldTexts e attrs i n)
   unfolding fieldTexts
-  safe-texts i zero = tt
-  safe-texts i (suc n) = let rest = safe-texts (suc i) n in search (either (All (SafePart attrs)), open-rest, opens-unprotected)
+  safe-texts e i zero = tt
+  safe-texts e i (suc n) = let rest = safe-texts e (suc i) n in search (either (All (SafePart attrs)), open-rest, opens-unprotected)
 
-  safe-modified-texts : (width i n : ℕ) → All (SafePart attrs) (modifiedTexts width attrs i n)
+  safe-modified-texts : (e : Edition) (width i n : ℕ) → All (SafePart attrs) (modifiedTexts e width attrs i n)
   unfolding modifiedTexts
-  safe-modified-texts width i zero = tt
-  safe-modified-texts width i (suc n) =
-      let rest = safe-modified-texts width (suc i) n in search (either (All (SafePart attrs)), open-rest, opens-unprotected)
+  safe-modified-texts e width i zero = tt
+  safe-modified-texts e width i (suc n) =
+      let rest = safe-modified-texts e width (suc i) n in search (either (All (SafePart attrs)), open-rest, opens-unprotected)
 
   without-first : (ps : List Part) → All (SafePart attrs) ps → All (SafePart attrs) (withoutFirst ps)
   without-first [] h = tt
@@ -202,7 +203,7 @@ module _ (v : View) (protecting : v .frame .suppressed ≡ false) where
 
   safe-subcommand : (h : Held) → Allowed (v .attrs) (subcommand v h)
   unfolding subcommand
-  safe-subcommand h = either (Allowed (v .attrs)) (eqb (h .count) 0) (λ q. search) (λ q. safe-looked _ (in-list SafeRow safe-rows _) h)
+  safe-subcommand h = either (Allowed (v .attrs)) (eqb (h .count) 0) (λ q. search) (λ q. safe-looked _ (in-list SafeRow safe-rows _ _) h)
 
   -- ---- keys
 

@@ -460,13 +460,13 @@ begun m n chars attrs = detOff (starting m n false chars attrs 0 0)
 abbrev opens : String → ℕ → ℕ → Case
 opens title m n =
     let cells = n * m in
-    opening title m n (screen (replicate cells 200) (replicate cells 9) (replicate cells 1)) 0
+    opening title m n 732 (screen (replicate cells 200) (replicate cells 9) (replicate cells 1)) 0
     (unmarked (begun m n (replicate cells 32) (replicate cells 0)))
 
 -- refused, with so many cells lent: the buffers as they came, and a session with M and N 0
 abbrev declines : String → ℕ → ℕ → ℕ → ℕ → ℕ → Case
 declines title number m n chars attrs =
-    opening title m n (screen (replicate chars 200) (replicate attrs 9) (replicate chars 1)) number
+    opening title m n 732 (screen (replicate chars 200) (replicate attrs 9) (replicate chars 1)) number
     (begun 0 0 (replicate chars 200) (replicate attrs 9))
 
 unfoldable pub opened-cases : List Case
@@ -485,7 +485,7 @@ unfolding computing seeing opened-cases
 opened-pass = (tt, (tt, (tt, (tt, (tt, (tt, (tt, (tt, (tt, (tt, (tt, tt)))))))))))
 
 -- the largest screen
-pub largest : numberOf ((opened 132 64 (blank 8448)) .answer .refusal) ≡ 0
+pub largest : numberOf ((opened 132 64 732 (blank 8448)) .answer .refusal) ≡ 0
 unfolding computing
 largest = refl
 

@@ -14,9 +14,11 @@ use Rattle.telnet.specs.declared.Event.{Event}
 use Rattle.telnet.specs.declared.Event.the-variants.{Nothing, Data, Negotiation, Begin, Sub, End, EndBare, Lost}
 use Rattle.rules.specs.declared.Held.{Held}
 use Rattle.rules.specs.declared.Frame.{Frame}
+use Rattle.rules.specs.declared.Edition.the-variants.{September}
 use Rattle.rules.specs.declared.Refusal.the-variants.{Taken, Size}
 use Rattle.rules.specs.Session.{Screen, State, cells, replyRoom, x3Cells, freshFrame, fresh, state, viewOf, allPrintable, sessionOk}
-use Rattle.rules.specs.Refusal.{isTaken, Test, verdict, sizeTests, stateTests}
+use Rattle.rules.specs.Edition.{editionOf}
+use Rattle.rules.specs.Refusal.{isTaken, Test, verdict, sizeTest, bufferTest, openTests, sizeTests, stateTests}
 use Rattle.rules.specs.Telnet.{holding, heldAfter}
 use Rattle.rules.specs.Operation.{Outcome, hostByte, running, unless, hostRefusal, hostBytes, pressTests, keyRan, oneKey, opened}
 use Rattle.rules.specs.Call.{Call, host, key, called, left, stateAfter}
@@ -107,18 +109,30 @@ Sizes f b =
     (1 ≤ f .width) × (f .width ≤ 132) × (1 ≤ f .height) × (f .height ≤ 64)
     × (length (b .chars) ≡ cells f) × (length (b .attrs) ≡ cells f) × (length (b .marks) ≡ cells f)
 
+both-sizes : (f : Frame) (b : Screen) → (sizeTest f) .passes ≡ true → (bufferTest f b) .passes ≡ true → Sizes f b
+both-sizes f b size buffers =
+    let z = halves (between 1 132 (f .width)) (between 1 64 (f .height)) size in
+    let w = halves (leb 1 (f .width)) (leb (f .width) 132) (z .0) in
+    let h = halves (leb 1 (f .height)) (leb (f .height) 64) (z .1) in
+    let l = halves (eqb (length (b .chars)) (cells f)) _ buffers in
+    let k = halves (eqb (length (b .attrs)) (cells f)) (eqb (length (b .marks)) (cells f)) (l .1) in
+    omega (arith, leb-true, eqb-true)
+
 sizes-of : (f : Frame) (b : Screen) (others : List Test) → isTaken (verdict (sizeTests f b ++ others)) ≡ true
     → Sizes f b × (isTaken (verdict others) ≡ true)
 unfolding sizeTests
 sizes-of f b others e =
     let size = asked _ _ refl e in
     let buffers = asked _ _ refl (size .1) in
-    let z = halves (between 1 132 (f .width)) (between 1 64 (f .height)) (size .0) in
-    let w = halves (leb 1 (f .width)) (leb (f .width) 132) (z .0) in
-    let h = halves (leb 1 (f .height)) (leb (f .height) 64) (z .1) in
-    let l = halves (eqb (length (b .chars)) (cells f)) _ (buffers .0) in
-    let k = halves (eqb (length (b .attrs)) (cells f)) (eqb (length (b .marks)) (cells f)) (l .1) in
-    (omega (arith, leb-true, eqb-true), buffers .1)
+    (both-sizes f b (size .0) (buffers .0), buffers .1)
+
+open-sizes : (f : Frame) (named : ℕ) (b : Screen) → isTaken (verdict (openTests f named b)) ≡ true → Sizes f b
+unfolding openTests
+open-sizes f named b e =
+    let size = asked _ _ refl e in
+    let edition = asked _ _ refl (size .1) in
+    let buffers = asked _ _ refl (edition .1) in
+    both-sizes f b (size .0) (buffers .0)
 
 -- what refusals 1 to 5 and 11 ask
 pub record Accepted (s : State) (reply : List ℕ) : Type 0 where
@@ -179,19 +193,19 @@ unfolding allPrintable
 spaces-printable zero = refl
 spaces-printable (suc n) = spaces-printable n
 
-no-screen : (b : Screen) (c : Call) → (called (state (fresh 0 0) b) c) .answer .refusal ≡ Size
+no-screen : (b : Screen) (c : Call) → (called (state (fresh 0 0 September) b) c) .answer .refusal ≡ Size
 unfolding called hostBytes oneKey unless verdict sizeTests
 no-screen b (host input reply) = refl
 no-screen b (key code reply) = refl
 
-module _ (m n : ℕ) (b : Screen) where
+module _ (m n named : ℕ) (b : Screen) where
   -- an open that is not refused
-  pub sound-open : (opened m n b) .answer .refusal ≡ Taken → Sound m n (left (opened m n b))
-  unfolding opened unless sizeTests
+  pub sound-open : (opened m n named b) .answer .refusal ≡ Taken → Sound m n (left (opened m n named b))
+  unfolding opened unless
   sound-open =
-      either (λ o. o .answer .refusal ≡ Taken → Sound m n (left o)) (isTaken (verdict (sizeTests (freshFrame m n) b)))
+      either (λ o. o .answer .refusal ≡ Taken → Sound m n (left o)) (isTaken (verdict (openTests (freshFrame m n (editionOf named)) named b)))
       (λ t e.
-      let z = sizes-of (freshFrame m n) b [] t .0 in
+      let z = open-sizes (freshFrame m n (editionOf named)) named b t in
       record {
         view = record {
           sizes = omega arith;
@@ -204,15 +218,15 @@ module _ (m n : ℕ) (b : Screen) where
         chars = record { long = length-replicate (n * m) 32; printing = spaces-printable (n * m) };
         marks = record { long = length-replicate (n * m) 0; small = no-marks (n * m) };
       })
-      (λ f e. not-both (isTaken (verdict (sizeTests (freshFrame m n) b))) (rw e) f)
+      (λ f e. not-both (isTaken (verdict (openTests (freshFrame m n (editionOf named)) named b))) (rw e) f)
 
-  refused-open : ((opened m n b) .answer .refusal ≡ Taken → ⊥) → (opened m n b) .answer .session ≡ fresh 0 0
+  refused-open : ((opened m n named b) .answer .refusal ≡ Taken → ⊥) → (opened m n named b) .answer .session ≡ fresh 0 0 September
   unfolding opened unless
   refused-open =
-      either (λ (o : Outcome). (o .answer .refusal ≡ Taken → ⊥) → o .answer .session ≡ fresh 0 0)
-      (isTaken (verdict (sizeTests (freshFrame m n) b))) (λ t r. absurd (r refl)) (λ f r. refl)
+      either (λ (o : Outcome). (o .answer .refusal ≡ Taken → ⊥) → o .answer .session ≡ fresh 0 0 September)
+      (isTaken (verdict (openTests (freshFrame m n (editionOf named)) named b))) (λ t r. absurd (r refl)) (λ f r. refl)
 
   -- a refused open's session is refused by every call, with 1, whatever is lent
-  pub refused-open-refused : ((opened m n b) .answer .refusal ≡ Taken → ⊥) → (again : Screen) (c : Call)
-      → (called (state ((opened m n b) .answer .session) again) c) .answer .refusal ≡ Size
+  pub refused-open-refused : ((opened m n named b) .answer .refusal ≡ Taken → ⊥) → (again : Screen) (c : Call)
+      → (called (state ((opened m n named b) .answer .session) again) c) .answer .refusal ≡ Size
   refused-open-refused r again c = rw (refused-open r) (no-screen again c)

@@ -100,7 +100,7 @@ touched-cases =
     ∷ both "refusal 4 goes before 11" 4 144 (marked (2 ∷ replicate 15 0) (startF 8 0))
     ∷ both "refusal 11 goes before 5" 11 143 (marked (2 ∷ replicate 15 0) (startF 3 0))
     ∷ both "reply room 143 refused 5" 5 143 (startF 3 0)
-    ∷ opening "open: mark buffer not C long, refused 2" 8 2 (screen (replicate 16 32) (replicate 16 0) (replicate 15 7)) 2
+    ∷ opening "open: mark buffer not C long, refused 2" 8 2 732 (screen (replicate 16 32) (replicate 16 0) (replicate 15 7)) 2
     (marked (replicate 15 7) (detOff (starting 0 0 false (replicate 16 32) (replicate 16 0) 0 0)))
     ∷ []
 

@@ -14,11 +14,13 @@ use Rattle.words.specs.Words.{if_then_else_, between}
 use Rattle.pad.specs.declared.message.Stage.{Stage}
 use Rattle.pad.specs.declared.message.Stage.the-variants.{Code, Parameter, Value}
 use Rattle.rules.specs.declared.Held.{Held}
+use Rattle.rules.specs.declared.Edition.{Edition}
 use Rattle.rules.specs.declared.Frame.{Frame}
 use Rattle.rules.specs.declared.Reader.{Reader}
 use Rattle.rules.specs.declared.Pad.{Pad}
 use Rattle.rules.specs.Session.{View, State, viewOf}
 use Rattle.rules.specs.Effect.{Executed}
+use Rattle.rules.specs.Edition.{meantBy}
 use Rattle.rules.specs.Command.{codeIn}
 use Rattle.rules.specs.Subcommand.{subcommand}
 use Rattle.rules.specs.Operation.{hostByte}
@@ -148,8 +150,8 @@ changers line =
 
 pub data Cause : Type 0 where
   byte : ℕ → Cause  -- of host data
-  execution : ℕ → Cause  -- of the command of this code
-  failure : ℕ → Cause  -- of the command of this code, by an ERROR
+  execution : ℕ → Cause  -- of the command of this code in document 01
+  failure : ℕ → Cause  -- of that command, by an ERROR
   negotiation : Verb → ℕ → Cause
   message : ℕ → Cause  -- of option 30 and this code, with a value for each parameter
   keystroke : ℕ → Cause
@@ -167,9 +169,9 @@ mayChange a (typing k) = changers a .typed k
 mayChange a nothing = false
 
 -- a subnegotiation that is obeyed: its command was executed, or drew an ERROR
-unfoldable pub commandCause : Held → List Executed → Cause
-commandCause h [] = failure (codeIn h)
-commandCause h (e ∷ es) = execution (e .row .code)
+unfoldable pub commandCause : Edition → Held → List Executed → Cause
+commandCause edition h [] = failure (meantBy edition (codeIn h))
+commandCause edition h (e ∷ es) = execution (e .row .code)
 
 -- a message of option 30 that ends: no code, or a parameter without its value, and it is none
 unfoldable pub messageCause : Stage → Cause
@@ -182,7 +184,7 @@ unfoldable pub causeOf : View → Reader → Pad → Event → Cause
 causeOf v r p (Data b) = byte b
 causeOf v r p (Negotiation verb option) = negotiation verb option
 causeOf v r p (End option) =
-    if eqb option 20 && v .frame .det then commandCause (r .held) ((subcommand v (r .held)) .executed)
+    if eqb option 20 && v .frame .det then commandCause (v .frame .edition) (r .held) ((subcommand v (r .held)) .executed)
     else if eqb option 30 && v .frame .x3 then messageCause (p .message .stage)
     else nothing
 causeOf v r p Nothing = nothing
@@ -215,6 +217,10 @@ noneChanges a (c ∷ cs) = not (mayChange a c) && noneChanges a cs
 
 abbrev pub NothingElse : Type 0
 NothingElse = (a : Aspect) (s : State) (c : Call) → noneChanges a (causesOf s c) ≡ true → Same a s (left (called s c))
+
+-- nothing changes the edition (request (vi))
+abbrev pub EditionKept : Type 0
+EditionKept = (s : State) (c : Call) → (called s c) .answer .session .frame .edition ≡ s .session .frame .edition
 
 -- a key leaves the reader as it was
 abbrev pub ReaderKept : Type 0

@@ -1,5 +1,5 @@
--- Document 01, "Subcommands", and document 02, requests (ii), (iii) and (v): the list of commands, what governs each, the ERROR that one
--- draws, and the seven that reach past protection.
+-- Document 01, "Subcommands", and document 02, requests (ii), (iii), (v) and (vi): the list of commands, what governs each, the ERROR
+-- that one draws, and the seven that reach past protection.
 use mathlib.Core.Bool.{Bool, true, false, not, _&&_}
 use mathlib.Core.List.{List, [], _∷_}
 use Prim.Native.Nat.{ℕ, suc, _+_, _*_}
@@ -43,6 +43,7 @@ use Rattle.rules.specs.declared.Command.the-variants.{
 }
 use Rattle.rules.specs.declared.Governor.{Governor}
 use Rattle.rules.specs.declared.Governor.the-variants.{Ungoverned}
+use Rattle.rules.specs.declared.Edition.{Edition}
 use Rattle.rules.specs.declared.Code.{Code}
 use Rattle.rules.specs.declared.Code.the-variants.{Known, Unknown}
 use Rattle.rules.specs.declared.Fault.{Fault}
@@ -56,6 +57,7 @@ use Rattle.rules.specs.declared.Fault.the-variants.{
   BadMap,
 }
 use Rattle.rules.specs.Session.{View, printable, cursorCell, screenEnd}
+use Rattle.rules.specs.Edition.{meantBy}
 use Rattle.rules.specs.Facility.{
   toroidalAddressing,
   incrementalAddressing,
@@ -99,9 +101,9 @@ abbrev pub row : ℕ → Command → ℕ → Governor → Reach → Row
 row code command parameters governor past =
     record { code = code; command = command; parameters = parameters; governor = governor; past = past }
 
--- Each command by its code, with its number of parameters: one map byte for 1 to 3, two for 4, none where none are listed. Then the
--- facility that governs it (request (ii)), if one does. The last column marks the seven that reach past protection. All other codes draw
--- ERROR 2.
+-- Each command by its code in document 01, with its number of parameters: one map byte for 1 to 3, two for 4, none where none are
+-- listed. Then the facility that governs it (request (ii)), if one does. The last column marks the seven that reach past protection. All
+-- other codes draw ERROR 2.
 unfoldable pub rows : List Row
 rows =
     row 1 (Facilities Editing) 1 Ungoverned never
@@ -152,8 +154,9 @@ unfoldable pub rowIn : List Row → ℕ → Listed
 rowIn [] code = unlisted
 rowIn (r ∷ rs) code = if eqb code (r .code) then listed r else rowIn rs code
 
-abbrev pub rowOf : ℕ → Listed
-rowOf code = rowIn rows code
+-- what a code received stands for in an edition (request (vi))
+abbrev pub rowOf : Edition → ℕ → Listed
+rowOf e code = rowIn rows (meantBy e code)
 
 -- what the list says of a code
 unfoldable pub meaning : Listed → Code
@@ -213,7 +216,7 @@ valueFault v Error h = NoFault
 -- code is among the bytes held.
 unfoldable pub faultOf : View → Command → ℕ → Governor → Held → Fault
 faultOf v c parameters governor h =
-    if not (agreed (v .frame .received) governor) then NotAgreed
+    if not (agreed (v .frame .edition) (v .frame .received) governor) then NotAgreed
     else if ltb (h .count) (parameters + 1) then TooFewParameters
     else if ltb (parameters + 1) (h .count) then TooManyParameters
     else valueFault v c h

@@ -1,5 +1,5 @@
 -- Document 01, the end of "Subcommands": which commands are executed, and which of them reach past protection. The premise of demand 3,
--- in the document's own numbers. Nothing here is used by the rules: these are sentences about them.
+-- in the codes of either edition (document 02, request (vi)). Nothing here is used by the rules: these are sentences about them.
 use mathlib.Core.Path.{_≡_}
 use mathlib.Core.Bool.{Bool, true, false, not, _&&_, _||_}
 use mathlib.Core.List.{List, [], _∷_, _++_}
@@ -10,6 +10,8 @@ use Rattle.telnet.specs.declared.Event.{Event}
 use Rattle.telnet.specs.declared.Event.the-variants.{End}
 use Rattle.telnet.specs.Reader.{readOf}
 use Rattle.rules.specs.declared.Held.{Held}
+use Rattle.rules.specs.declared.Edition.{Edition}
+use Rattle.rules.specs.declared.Edition.the-variants.{June, September}
 use Rattle.rules.specs.declared.Reader.{Reader}
 use Rattle.rules.specs.declared.Pad.{Pad}
 use Rattle.rules.specs.declared.Refusal.the-variants.{Taken}
@@ -30,25 +32,30 @@ oneOf (m ∷ ms) n = eqb n m || oneOf ms n
 
 -- ---- the seven
 
--- by the code and the first parameter
-unfoldable pub isSeven : ℕ → ℕ → Bool
-isSeven code first = oneOf (20 ∷ 22 ∷ 24 ∷ 25 ∷ 29 ∷ 36 ∷ []) code || (eqb code 38 && eqb first 253)
+-- by the code of the edition and the first parameter
+unfoldable pub isSeven : Edition → ℕ → ℕ → Bool
+isSeven September code first = oneOf (20 ∷ 22 ∷ 24 ∷ 25 ∷ 29 ∷ 36 ∷ []) code || (eqb code 38 && eqb first 253)
+isSeven June code first = oneOf (20 ∷ 22 ∷ 24 ∷ 25 ∷ 28 ∷ 35 ∷ []) code || (eqb code 37 && eqb first 253)
 
 -- a command of the list, with any bytes held: the first parameter is the byte after the code
 abbrev pub Seven : Type 0
-Seven = (code : ℕ) (r : Row) (h : Held) → rowOf code ≡ listed r → reachesPast r h ≡ isSeven code (getD (h .bytes) 1 0)
+Seven =
+    (e : Edition) (code : ℕ) (r : Row) (h : Held)
+    → rowOf e code ≡ listed r → reachesPast r h ≡ isSeven e code (getD (h .bytes) 1 0)
 
 -- ---- what a subcommand executes: itself where its code is in the list, its facility is agreed and it draws no ERROR, and else nothing
 
 pub record SubcommandExecutes (v : View) (h : Held) : Type 0 where
-  pub itself : (r : Row) → rowOf (codeIn h) ≡ listed r → eqb (h .count) 0 ≡ false
+  pub itself : (r : Row) → rowOf (v .frame .edition) (codeIn h) ≡ listed r → eqb (h .count) 0 ≡ false
       → faultOf v (r .command) (r .parameters) (r .governor) h ≡ NoFault
       → (subcommand v h) .executed ≡ record { row = r; held = h } ∷ []
-  pub no-error : (r : Row) → rowOf (codeIn h) ≡ listed r → (faultOf v (r .command) (r .parameters) (r .governor) h ≡ NoFault → ⊥)
+  pub no-error : (r : Row) → rowOf (v .frame .edition) (codeIn h) ≡ listed r
+      → (faultOf v (r .command) (r .parameters) (r .governor) h ≡ NoFault → ⊥)
       → (subcommand v h) .executed ≡ []
-  pub not-agreed : (r : Row) → rowOf (codeIn h) ≡ listed r → agreed (v .frame .received) (r .governor) ≡ false
+  pub not-agreed : (r : Row) → rowOf (v .frame .edition) (codeIn h) ≡ listed r
+      → agreed (v .frame .edition) (v .frame .received) (r .governor) ≡ false
       → (subcommand v h) .executed ≡ []
-  pub no-code : rowOf (codeIn h) ≡ unlisted → (subcommand v h) .executed ≡ []
+  pub no-code : rowOf (v .frame .edition) (codeIn h) ≡ unlisted → (subcommand v h) .executed ≡ []
   pub no-byte : eqb (h .count) 0 ≡ true → (subcommand v h) .executed ≡ []
 
 -- ---- what the reader's news executes: the end of a subnegotiation of option 20 while DET is on, and nothing else
@@ -79,9 +86,12 @@ pub record CallExecutes (s : State) : Type 0 where
 
 -- ---- the premise of demand 3, by the bytes that each command came in
 
-unfoldable pub noneSeven : List Executed → Bool
-noneSeven [] = true
-noneSeven (e ∷ es) = not (isSeven (getD (e .held .bytes) 0 0) (getD (e .held .bytes) 1 0)) && noneSeven es
+unfoldable pub noneSeven : Edition → List Executed → Bool
+noneSeven edition [] = true
+noneSeven edition (e ∷ es) =
+    not (isSeven edition (getD (e .held .bytes) 0 0) (getD (e .held .bytes) 1 0)) && noneSeven edition es
 
 abbrev pub PremiseInNumbers : Type 0
-PremiseInNumbers = (s : State) (calls : List Call) → noneReaches (executedOf s calls) ≡ noneSeven (executedOf s calls)
+PremiseInNumbers =
+    (s : State) (calls : List Call)
+    → noneReaches (executedOf s calls) ≡ noneSeven (s .session .frame .edition) (executedOf s calls)

@@ -1,4 +1,4 @@
--- Document 01, "Subcommands", 1 to 4, and document 02, requests (ii), (iii) and (v): facilities. What a bit of a map stands for, by
+-- Document 01, "Subcommands", 1 to 4, and document 02, requests (ii), (iii), (v) and (vi): facilities. What a bit of a map stands for, by
 -- "Facility Functions" in section 2 of source documents 003 and 000; the maps that the terminal sends; and what is agreed, by section 5
 -- of 000.
 use mathlib.Core.Bool.{Bool, true, _&&_}
@@ -10,6 +10,8 @@ use Rattle.rules.specs.declared.Facility.the-variants.{Editing, Erasing,
 use Rattle.rules.specs.declared.Governor.{Governor}
 use Rattle.rules.specs.declared.Governor.the-variants.{Ungoverned, EditBit, EraseBit, TransmitBit, Format0Bit, Format1Bit}
 use Rattle.rules.specs.declared.Maps.{Maps}
+use Rattle.rules.specs.declared.Edition.{Edition}
+use Rattle.rules.specs.declared.Edition.the-variants.{June, September}
 
 -- ---- the bits that govern a command. The others govern none that the terminal receives.
 
@@ -85,16 +87,21 @@ protectionFacility = Format1Bit (weight 5)
 
 -- ---- what is agreed
 
--- The terminal's own maps. The erase map has the bits of the five partial erasures, 0 to 4 in source document 000.
-abbrev pub ownMaps : Maps
-ownMaps = record { edit = 126; erase = 31; transmit = 63; format0 = 208; format1 = 121 }
+-- request (vi): June has no TRANSMIT MODIFIED, and its bit is off
+abbrev pub ownFormat0 : Edition → ℕ
+ownFormat0 June = 144
+ownFormat0 September = 208
 
--- 1 to 4 are answered with their own code and the terminal's own map
-unfoldable pub ownMap : Facility → List ℕ
-ownMap Editing = 1 ∷ ownMaps .edit ∷ []
-ownMap Erasing = 2 ∷ ownMaps .erase ∷ []
-ownMap Transmitting = 3 ∷ ownMaps .transmit ∷ []
-ownMap Formatting = 4 ∷ ownMaps .format0 ∷ ownMaps .format1 ∷ []
+-- The terminal's own maps. The erase map has the bits of the five partial erasures, 0 to 4 in source document 000.
+abbrev pub ownMaps : Edition → Maps
+ownMaps e = record { edit = 126; erase = 31; transmit = 63; format0 = ownFormat0 e; format1 = 121 }
+
+-- 1 to 4, which both editions have, are answered with their own code and the terminal's own map
+unfoldable pub ownMap : Edition → Facility → List ℕ
+ownMap e Editing = 1 ∷ ownMaps e .edit ∷ []
+ownMap e Erasing = 2 ∷ ownMaps e .erase ∷ []
+ownMap e Transmitting = 3 ∷ ownMaps e .transmit ∷ []
+ownMap e Formatting = 4 ∷ ownMaps e .format0 ∷ ownMaps e .format1 ∷ []
 
 -- the latest map of a class counts, whatever came before: its first byte, and for formatting a second one
 unfoldable pub receiving : Maps → Facility → ℕ → ℕ → Maps
@@ -108,10 +115,10 @@ abbrev pub inBoth : ℕ → ℕ → ℕ → Bool
 inBoth w received own = bit w received && bit w own
 
 -- a command that no bit governs needs none
-unfoldable pub agreed : Maps → Governor → Bool
-agreed m Ungoverned = true
-agreed m (EditBit w) = inBoth w (m .edit) (ownMaps .edit)
-agreed m (EraseBit w) = inBoth w (m .erase) (ownMaps .erase)
-agreed m (TransmitBit w) = inBoth w (m .transmit) (ownMaps .transmit)
-agreed m (Format0Bit w) = inBoth w (m .format0) (ownMaps .format0)
-agreed m (Format1Bit w) = inBoth w (m .format1) (ownMaps .format1)
+unfoldable pub agreed : Edition → Maps → Governor → Bool
+agreed e m Ungoverned = true
+agreed e m (EditBit w) = inBoth w (m .edit) (ownMaps e .edit)
+agreed e m (EraseBit w) = inBoth w (m .erase) (ownMaps e .erase)
+agreed e m (TransmitBit w) = inBoth w (m .transmit) (ownMaps e .transmit)
+agreed e m (Format0Bit w) = inBoth w (m .format0) (ownMaps e .format0)
+agreed e m (Format1Bit w) = inBoth w (m .format1) (ownMaps e .format1)

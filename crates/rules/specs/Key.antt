@@ -1,4 +1,4 @@
--- Document 01, "Keys", and document 02, request (v).
+-- Document 01, "Keys", and document 02, requests (v) and (vi).
 use mathlib.Core.Bool.{Bool, true, false, not, _||_}
 use mathlib.Core.List.{List, [], _∷_}
 use Prim.Native.Nat.{ℕ, _+_, _-_}
@@ -14,6 +14,7 @@ use Rattle.rules.specs.declared.Key.{Key}
 use Rattle.rules.specs.declared.Key.the-variants.{Typed, Back, Tab, Send, Delete, Function, Meaningless}
 use Rattle.rules.specs.Session.{View, printable, cursorCell}
 use Rattle.rules.specs.Number.{fn}
+use Rattle.rules.specs.Edition.{codeFor}
 use Rattle.rules.specs.Refusal.{Test, test}
 use Rattle.rules.specs.Effect.{Effect, put, message, saying, quiet, writing}
 use Rattle.rules.specs.Cursor.{cursorGuarded, sentTo}
@@ -87,5 +88,5 @@ pressed v Send = transmitted v Unprotected
 -- 127: as subcommand 16
 pressed v Delete = shifting v Deletion
 -- 128 to 143: FN (40) with its number
-pressed v (Function n) = saying v (message (fn ∷ n ∷ []) ∷ [])
+pressed v (Function n) = saying v (message (codeFor (v .frame .edition) fn ∷ n ∷ []) ∷ [])
 pressed v Meaningless = quiet v

@@ -1,5 +1,6 @@
 pub mod Session
 pub mod Number
+pub mod Edition
 pub mod Refusal
 pub mod Facility
 pub mod Command

@@ -1,4 +1,4 @@
--- The numbers of the protocol, by the names that the papers give them. Codes that the terminal receives stand in the list of
+-- The numbers of the protocol, by the names that the papers give them. Commands that the terminal receives stand in the list of
 -- Command.antt, the Telnet bytes and verbs in telnet's Reader.antt.
 use Prim.Native.Nat.{ℕ}
 use Rattle.rules.specs.declared.Fault.{Fault}
@@ -20,7 +20,7 @@ detOption = 20
 abbrev pub x3Option : ℕ
 x3Option = 30
 
--- ---- the codes of what the terminal sends
+-- ---- what the terminal sends, by document 01's codes; Edition.antt says how an edition writes them
 
 -- the answer to READ CURSOR
 abbrev pub cursorPosition : ℕ

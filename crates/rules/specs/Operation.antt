@@ -1,4 +1,4 @@
--- Document 01, "Sizes and lent memory": the three operations, open, host bytes, one key.
+-- Document 01, "Sizes and lent memory": the three operations, open, host bytes, one key. Document 02, request (vi): open with an edition.
 use mathlib.Core.Bool.{_&&_}
 use mathlib.Core.List.{List, [], _∷_, _++_}
 use Prim.Native.Nat.{ℕ, suc, _-_}
@@ -10,12 +10,14 @@ use Rattle.telnet.specs.Reader.{readOf}
 use Rattle.words.specs.Words.{if_then_else_}
 use Rattle.rules.specs.declared.Reader.{Reader}
 use Rattle.rules.specs.declared.Pad.{Pad}
+use Rattle.rules.specs.declared.Edition.the-variants.{September}
 use Rattle.rules.specs.declared.Refusal.{Refusal}
 use Rattle.rules.specs.declared.Refusal.the-variants.{Taken}
 use Rattle.rules.specs.declared.Answer.{Answer}
 use Rattle.rules.specs.Session.{Screen, State, View, cells, replyRoom, session, freshFrame, fresh, screen, state, viewOf}
 use Rattle.rules.specs.Number.{detOption}
-use Rattle.rules.specs.Refusal.{Test, isTaken, verdict, sizeTests, stateTests}
+use Rattle.rules.specs.Edition.{editionOf}
+use Rattle.rules.specs.Refusal.{Test, isTaken, verdict, openTests, sizeTests, stateTests}
 use Rattle.rules.specs.Effect.{Effect, Executed, changedAll, marksAfter, spelledAll, saying, quiet}
 use Rattle.rules.specs.Telnet.{heldAfter, crAfter, negotiated, hostData}
 use Rattle.rules.specs.Pad.{padAfter, response, takesKey, lineTests, padTyped, typedTo, passes}
@@ -157,9 +159,10 @@ oneKey s reply k = unless (keyRefusal s reply k) s reply (answering 1 (keyRan s 
 abbrev pub blank : ℕ → Screen
 blank n = screen (replicate n 32) (replicate n 0) (replicate n 0)
 
--- Open takes no session and lends no reply buffer. Refused, it returns a fresh session with M and N 0.
-unfoldable pub opened : ℕ → ℕ → Screen → Outcome
-opened m n b =
-    let f = freshFrame m n in
-    let done : Ran = record { state = state (fresh m n) (blank (cells f)); replies = []; executed = [] } in
-    unless (verdict (sizeTests f b)) (state (fresh 0 0) b) [] (answering 0 done [])
+-- Open takes no session and lends no reply buffer; an edition is named. Refused, it returns a fresh session with M and N 0, of
+-- September's edition.
+unfoldable pub opened : ℕ → ℕ → ℕ → Screen → Outcome
+opened m n named b =
+    let f = freshFrame m n (editionOf named) in
+    let done : Ran = record { state = state (fresh m n (editionOf named)) (blank (cells f)); replies = []; executed = [] } in
+    unless (verdict (openTests f named b)) (state (fresh 0 0 September) b) [] (answering 0 done [])

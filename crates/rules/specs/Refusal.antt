@@ -21,7 +21,9 @@ use Rattle.rules.specs.declared.Refusal.the-variants.{
   NoMeaning,
   LineFull,
   BadMark,
+  UnknownEdition,
 }
+use Rattle.rules.specs.Edition.{isEdition}
 use Rattle.rules.specs.Session.{Screen, sizesOk, cells, replyRoom, allPrintable, allMarks, sessionOk}
 
 -- the table's numbers; 0 where the call is taken
@@ -38,6 +40,7 @@ numberOf DetOff = 8
 numberOf NoMeaning = 9
 numberOf LineFull = 10
 numberOf BadMark = 11
+numberOf UnknownEdition = 12
 
 abbrev pub isTaken : Refusal → Bool
 isTaken r = eqb (numberOf r) 0
@@ -55,16 +58,24 @@ unfoldable pub verdict : List Test → Refusal
 verdict [] = Taken
 verdict (t ∷ ts) = if t .passes then verdict ts else t .otherwise
 
--- 1 and 2, of every operation; open has no others
-unfoldable pub sizeTests : Frame → Screen → List Test
-sizeTests f b =
-    test (sizesOk (f .width) (f .height)) Size
-    ∷ test
-    (eqb (length (b .chars)) (cells f) && (eqb (length (b .attrs)) (cells f) && eqb (length (b .marks)) (cells f)))
-    BufferLength
-    ∷ []
+-- 1
+abbrev pub sizeTest : Frame → Test
+sizeTest f = test (sizesOk (f .width) (f .height)) Size
 
--- 3, 4, 11 and 5, of host bytes and of a key, after those
+-- 2
+abbrev pub bufferTest : Frame → Screen → Test
+bufferTest f b =
+    test (eqb (length (b .chars)) (cells f) && (eqb (length (b .attrs)) (cells f) && eqb (length (b .marks)) (cells f))) BufferLength
+
+-- 1, 12 and 2, all that open has: the edition named must be one
+unfoldable pub openTests : Frame → ℕ → Screen → List Test
+openTests f named b = sizeTest f ∷ test (isEdition named) UnknownEdition ∷ bufferTest f b ∷ []
+
+-- 1 and 2, of host bytes and of a key
+unfoldable pub sizeTests : Frame → Screen → List Test
+sizeTests f b = sizeTest f ∷ bufferTest f b ∷ []
+
+-- 3, 4, 11 and 5, after those
 unfoldable pub stateTests : Session → Screen → List ℕ → List Test
 stateTests s b reply =
     test (allPrintable (b .chars)) BadCharacter

@@ -1,5 +1,5 @@
--- Document 01, "Sizes and lent memory", and document 02, requests (i) and (v): the session, the screen buffers, and what a decision may
--- see of them.
+-- Document 01, "Sizes and lent memory", and document 02, requests (i), (v) and (vi): the session, the screen buffers, and what a
+-- decision may see of them.
 use mathlib.Core.Bool.{Bool, true, false, not, _&&_, _||_}
 use mathlib.Core.List.{List, [], _∷_}
 use Prim.Native.Nat.{ℕ, _*_}
@@ -17,6 +17,7 @@ use Rattle.screen.specs.declared.cell.Place.{Place}
 use Rattle.screen.specs.Cells.{place, cellOf, onScreen}
 use Rattle.rules.specs.declared.Held.{Held}
 use Rattle.rules.specs.declared.Maps.{Maps}
+use Rattle.rules.specs.declared.Edition.{Edition}
 use Rattle.rules.specs.declared.Frame.{Frame}
 use Rattle.rules.specs.declared.Reader.{Reader}
 use Rattle.rules.specs.declared.Pad.{Pad}
@@ -75,9 +76,18 @@ noMaps = record { edit = 0; erase = 0; transmit = 0; format0 = 0; format1 = 0 }
 
 -- what an open starts with: cursor (0,0), both options off, protection in effect, nothing agreed; nothing half read; parameters at
 -- their start, an empty line
-abbrev pub freshFrame : ℕ → ℕ → Frame
-freshFrame m n =
-    record { width = m; height = n; cursor = place 0 0; det = false; x3 = false; suppressed = false; received = noMaps }
+abbrev pub freshFrame : ℕ → ℕ → Edition → Frame
+freshFrame m n edition =
+    record {
+      width = m;
+      height = n;
+      edition = edition;
+      cursor = place 0 0;
+      det = false;
+      x3 = false;
+      suppressed = false;
+      received = noMaps;
+    }
 
 abbrev pub freshReader : Reader
 freshReader = record { phase = Rest; held = noneHeld; cr = false }
@@ -91,15 +101,16 @@ freshPad = padWith startValues (lineOf []) idleMessage
 abbrev pub session : Frame → Reader → Pad → Session
 session f r p = record { frame = f; reader = r; pad = p }
 
-abbrev pub fresh : ℕ → ℕ → Session
-fresh m n = session (freshFrame m n) freshReader freshPad
+abbrev pub fresh : ℕ → ℕ → Edition → Session
+fresh m n edition = session (freshFrame m n edition) freshReader freshPad
 
--- a frame of the same size
+-- a frame of the same size and the same edition
 abbrev pub sized : Frame → Place → Bool → Bool → Bool → Maps → Frame
 sized f cursor det x3 suppressed received =
     record {
       width = f .width;
       height = f .height;
+      edition = f .edition;
       cursor = cursor;
       det = det;
       x3 = x3;

@@ -1,4 +1,4 @@
--- Document 01, "Subcommands", and document 02, requests (ii), (iii) and (v): what each does.
+-- Document 01, "Subcommands", and document 02, requests (ii), (iii), (v) and (vi): what each does.
 use mathlib.Core.Bool.{Bool, true, false}
 use mathlib.Core.List.{List, [], _∷_}
 use Prim.Native.Nat.{ℕ, zero, suc, _+_}
@@ -46,6 +46,7 @@ use Rattle.rules.specs.declared.Command.the-variants.{
   SuppressProtection,
   Error,
 }
+use Rattle.rules.specs.declared.Edition.{Edition}
 use Rattle.rules.specs.declared.Fault.{Fault}
 use Rattle.rules.specs.declared.Fault.the-variants.{
   NoFault,
@@ -59,6 +60,7 @@ use Rattle.rules.specs.declared.Fault.the-variants.{
 }
 use Rattle.rules.specs.Session.{View, withReceived, cursorCell, screenEnd, withCursor, withModes, withFrame, withAttrs}
 use Rattle.rules.specs.Number.{detOption, cursorPosition, dataTransmit, suppressProtection, fieldSeparator, error, faultNumber}
+use Rattle.rules.specs.Edition.{codeFor}
 use Rattle.rules.specs.Facility.{ownMap, receiving}
 use Rattle.rules.specs.Command.{Row, Listed, listed, unlisted, rowOf, codeIn, parameter, placeIn, formatCount, faultOf}
 use Rattle.rules.specs.Effect.{
@@ -82,18 +84,18 @@ use Rattle.rules.specs.Telnet.{hostCharacters}
 -- ---- transmissions
 
 -- every transmission starts with 28 and the place of the first cell it sends
-abbrev pub prefaceBytes : Place → List ℕ
-prefaceBytes p = subnegotiation detOption (dataTransmit ∷ p .x .0 ∷ p .y .0 ∷ [])
+abbrev pub prefaceBytes : Edition → Place → List ℕ
+prefaceBytes e p = subnegotiation detOption (codeFor e dataTransmit ∷ p .x .0 ∷ p .y .0 ∷ [])
 
-abbrev pub preface : Place → Part
-preface p = bytes (prefaceBytes p)
+abbrev pub preface : View → Place → Part
+preface v p = bytes (prefaceBytes (v .frame .edition) p)
 
 -- 21: the text of every unprotected field in order, of the n cells from i on, 39 before each
-unfoldable pub fieldTexts : List ℕ → ℕ → ℕ → List Part
-fieldTexts attrs i zero = []
-fieldTexts attrs i (suc n) =
-    let rest = fieldTexts attrs (suc i) n in
-    if opensAt attrs i then message (fieldSeparator ∷ []) ∷ text i (fieldEnd attrs i) ∷ rest else rest
+unfoldable pub fieldTexts : Edition → List ℕ → ℕ → ℕ → List Part
+fieldTexts e attrs i zero = []
+fieldTexts e attrs i (suc n) =
+    let rest = fieldTexts e attrs (suc i) n in
+    if opensAt attrs i then message (codeFor e fieldSeparator ∷ []) ∷ text i (fieldEnd attrs i) ∷ rest else rest
 
 -- 39 stands between each two, so not before the first
 abbrev pub withoutFirst : List Part → List Part
@@ -107,38 +109,40 @@ unlessGuarded v p = if cursorGuarded v then [] else p ∷ []
 abbrev pub fieldFrom : View → ℕ → Effect
 fieldFrom v from =
     saying v
-    (preface (if cursorGuarded v then v .frame .cursor else placeOf (v .frame .width) from)
+    (preface v (if cursorGuarded v then v .frame .cursor else placeOf (v .frame .width) from)
     ∷ unlessGuarded v (text from (fieldEnd (v .attrs) (cursorCell v))))
 
 unfoldable pub transmitted : View → Area → Effect
 -- 20: the whole screen; the cursor goes to the corner
-transmitted v WholeScreen = saying (sentTo v Corner) (preface (destination v Corner) ∷ text 0 (screenEnd v) ∷ [])
+transmitted v WholeScreen = saying (sentTo v Corner) (preface v (destination v Corner) ∷ text 0 (screenEnd v) ∷ [])
 -- 21: every unprotected field, and the cursor to the first of them
 transmitted v Unprotected =
-    saying (sentTo v FirstField) (preface (destination v FirstField) ∷ withoutFirst (fieldTexts (v .attrs) 0 (screenEnd v)))
+    saying (sentTo v FirstField)
+    (preface v (destination v FirstField) ∷ withoutFirst (fieldTexts (v .frame .edition) (v .attrs) 0 (screenEnd v)))
 -- 22: the line of the cursor, which then goes to the start of the line below, or of its own where there is none
 transmitted v WholeLine =
     let f = v .frame in
     saying (sentTo v NextLine)
-    (preface (destination v LineStart) ∷ text (lineStart (f .width) (f .cursor .y)) (lineEnd (f .width) (f .cursor .y)) ∷ [])
+    (preface v (destination v LineStart) ∷ text (lineStart (f .width) (f .cursor .y)) (lineEnd (f .width) (f .cursor .y)) ∷ [])
 -- 24, 25: what is left of the screen, or of the line, from the cursor on
-transmitted v RestOfScreen = saying v (preface (v .frame .cursor) ∷ text (cursorCell v) (screenEnd v) ∷ [])
+transmitted v RestOfScreen = saying v (preface v (v .frame .cursor) ∷ text (cursorCell v) (screenEnd v) ∷ [])
 transmitted v RestOfLine =
-    let f = v .frame in saying v (preface (f .cursor) ∷ text (cursorCell v) (lineEnd (f .width) (f .cursor .y)) ∷ [])
+    let f = v .frame in saying v (preface v (f .cursor) ∷ text (cursorCell v) (lineEnd (f .width) (f .cursor .y)) ∷ [])
 -- 23, 26: the field that the cursor is in, or what is left of it
 transmitted v WholeField = fieldFrom v (fieldStart (v .attrs) (cursorCell v))
 transmitted v RestOfField = fieldFrom v (cursorCell v)
 
 -- 27: every unprotected field of the n cells from i on that has a marked cell, each after a preface of its own
-unfoldable pub modifiedTexts : ℕ → List ℕ → ℕ → ℕ → List Part
-modifiedTexts width attrs i zero = []
-modifiedTexts width attrs i (suc n) =
-    let rest = modifiedTexts width attrs (suc i) n in
-    if opensAt attrs i then whereMarked (prefaceBytes (placeOf width i)) i (fieldEnd attrs i) ∷ rest else rest
+unfoldable pub modifiedTexts : Edition → ℕ → List ℕ → ℕ → ℕ → List Part
+modifiedTexts e width attrs i zero = []
+modifiedTexts e width attrs i (suc n) =
+    let rest = modifiedTexts e width attrs (suc i) n in
+    if opensAt attrs i then whereMarked (prefaceBytes e (placeOf width i)) i (fieldEnd attrs i) ∷ rest else rest
 
 -- the cursor goes where 21 leaves it, and all marks are cleared
 abbrev pub transmittedModified : View → Effect
-transmittedModified v = clearing (saying (sentTo v FirstField) (modifiedTexts (v .frame .width) (v .attrs) 0 (screenEnd v)))
+transmittedModified v =
+    let f = v .frame in clearing (saying (sentTo v FirstField) (modifiedTexts (f .edition) (f .width) (v .attrs) 0 (screenEnd v)))
 
 -- ---- erasures
 
@@ -186,15 +190,15 @@ abbrev pub lineShifting : View → Shift → Effect
 lineShifting v s = if linesGuarded v then quiet v else shiftingCells v s (cursorLineStart v) (screenEnd v) (v .frame .width)
 
 -- 38: suppress, end it, and the two questions, answered as in negotiation
-abbrev pub suppressionAnswer : Verb → Part
-suppressionAnswer verb = message (suppressProtection ∷ verbCode verb ∷ [])
+abbrev pub suppressionAnswer : View → Verb → Part
+suppressionAnswer v verb = message (codeFor (v .frame .edition) suppressProtection ∷ verbCode verb ∷ [])
 
 unfoldable pub suppressing : View → ℕ → Effect
 suppressing v p =
     let f = v .frame in
-    if eqb p (verbCode Do) then saying (withModes v (f .det) true) (if f .suppressed then [] else suppressionAnswer Will ∷ [])
-    else if eqb p (verbCode Dont) then saying (withModes v (f .det) false) (if f .suppressed then suppressionAnswer Wont ∷ [] else [])
-    else if eqb p (verbCode Will) then saying v (suppressionAnswer Dont ∷ [])
+    if eqb p (verbCode Do) then saying (withModes v (f .det) true) (if f .suppressed then [] else suppressionAnswer v Will ∷ [])
+    else if eqb p (verbCode Dont) then saying (withModes v (f .det) false) (if f .suppressed then suppressionAnswer v Wont ∷ [] else [])
+    else if eqb p (verbCode Will) then saying v (suppressionAnswer v Dont ∷ [])
     else quiet v
 
 -- a command that draws no ERROR
@@ -203,7 +207,7 @@ unfoldable pub obeyed : View → Command → Held → Effect
 obeyed v (Facilities facility) h =
     let f = v .frame in
     let received = receiving (f .received) facility (parameter h 0) (parameter h 1) in
-    saying (withFrame v (withReceived f received)) (message (ownMap facility) ∷ [])
+    saying (withFrame v (withReceived f received)) (message (ownMap (f .edition) facility) ∷ [])
 -- 5
 obeyed v MoveCursor h = quiet (withCursor v (limited (v .frame) (placeIn h)))
 -- 6, 7
@@ -216,7 +220,8 @@ obeyed v (LineShift s) h = lineShifting v s
 -- 15, 16
 obeyed v (CharShift s) h = shifting v s
 -- 17: answer 18 x y
-obeyed v ReadCursor h = saying v (message (cursorPosition ∷ v .frame .cursor .x .0 ∷ v .frame .cursor .y .0 ∷ []) ∷ [])
+obeyed v ReadCursor h =
+    let f = v .frame in saying v (message (codeFor (f .edition) cursorPosition ∷ f .cursor .x .0 ∷ f .cursor .y .0 ∷ []) ∷ [])
 -- 20 to 26
 obeyed v (Transmit area) h = transmitted v area
 -- 27
@@ -235,9 +240,9 @@ obeyed v Error h = quiet v
 
 -- ---- check order and ERROR
 
--- 41, the command and the number; nothing changes
+-- 41, the command by the code that it came with, and the number; nothing changes
 abbrev pub erring : View → ℕ → Fault → Effect
-erring v code fault = saying v (message (error ∷ code ∷ faultNumber fault ∷ []) ∷ [])
+erring v code fault = saying v (message (codeFor (v .frame .edition) error ∷ code ∷ faultNumber fault ∷ []) ∷ [])
 
 -- obeyed, and so executed; or an ERROR, which MOVE CURSOR draws after it has limited
 unfoldable pub judged : View → Row → Held → Fault → Effect
@@ -264,4 +269,4 @@ looked v (listed r) h = judged v r h (faultOf v (r .command) (r .parameters) (r 
 
 -- a subnegotiation of option 20 that ended while DET is on, with these bytes held; no command byte: ERROR 10 with command 0
 unfoldable pub subcommand : View → Held → Effect
-subcommand v h = if eqb (h .count) 0 then erring v 0 TooFewParameters else looked v (rowOf (codeIn h)) h
+subcommand v h = if eqb (h .count) 0 then erring v 0 TooFewParameters else looked v (rowOf (v .frame .edition) (codeIn h)) h

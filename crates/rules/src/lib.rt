@@ -22,11 +22,18 @@ pub struct Maps {
     pub format1: u8,
 }
 
-// What the rules go by: the screen's size, the cursor, which options are on, protection suppressed or in effect, and the maps received
-// in the latest facility command of each class.
+// The edition of the protocol, which says what code a command has: RFC 731 (June), or RFC 732 (September).
+pub enum Edition {
+    June,
+    September,
+}
+
+// What the rules go by: the screen's size, the edition, the cursor, which options are on, protection suppressed or in effect, and the maps
+// received in the latest facility command of each class.
 pub struct Frame {
     pub width: u8,
     pub height: u8,
+    pub edition: Edition,
     pub cursor: Place,
     pub det: bool,
     pub x3: bool,
@@ -76,6 +83,7 @@ pub enum Refusal {
     NoMeaning,
     LineFull,
     BadMark,
+    UnknownEdition,
 }
 
 // What each operation answers.

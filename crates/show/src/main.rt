@@ -13,6 +13,9 @@ const WIDTH: usize = 8;
 
 const HEIGHT: usize = 2;
 
+// Document 01's edition, RFC 732.
+const SEPTEMBER: usize = 732;
+
 // Where standard input stands.
 enum Input {
     Open,
@@ -214,7 +217,7 @@ fn main() {
     let mut attrs = [0u8; 16];
     let mut marks = [0u8; 16];
     let mut reply = io::buffer();
-    let opened = admit::open::open(WIDTH, HEIGHT, &mut chars, &mut attrs, &mut marks);
+    let opened = admit::open::open(WIDTH, HEIGHT, SEPTEMBER, &mut chars, &mut attrs, &mut marks);
     let session = opened.session;
     let run = Run {
         session: session,

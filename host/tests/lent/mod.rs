@@ -1,7 +1,7 @@
 //! All that a call is lent, and calls by both of the crate's doors.
 
 use host::raw;
-use host::terminal::{at, reply_room, Session, SESSION_LENGTH, SESSION_VERSION};
+use host::terminal::{at, reply_room, Session, SEPTEMBER, SESSION_LENGTH, SESSION_VERSION};
 
 use Call::{Host, Key};
 
@@ -29,20 +29,22 @@ pub struct Lent {
 }
 
 /// The bytes of the session that open leaves: what is not 0 in it is the
-/// version, the size and the start of parameters 130 and 131.
-pub fn fresh(width: u8, height: u8) -> Vec<u8> {
+/// version, the size, the start of parameters 130 and 131, and September's
+/// edition.
+pub fn fresh(width: u8, height: u8, edition: usize) -> Vec<u8> {
     let mut session = vec![0; SESSION_LENGTH];
     session[..3].copy_from_slice(&[SESSION_VERSION, width, height]);
     session[at::PARAMETERS + 25..][..2].copy_from_slice(&[19, 17]);
+    session[at::EDITION] = u8::from(edition == SEPTEMBER);
     session
 }
 
 impl Lent {
-    /// As open leaves all, with the least reply room.
+    /// As open leaves all in September's edition, with the least reply room.
     pub fn open(width: u8, height: u8) -> Lent {
         let (columns, lines) = (usize::from(width), usize::from(height));
         Lent {
-            session: fresh(width, height),
+            session: fresh(width, height, SEPTEMBER),
             chars: vec![b' '; columns * lines],
             attrs: vec![0; columns * lines],
             marks: vec![0; columns * lines],

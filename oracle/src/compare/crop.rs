@@ -3,7 +3,8 @@
 
 use std::ops::Range;
 
-use crate::script::Line;
+use super::numbers::lengths;
+use crate::script::{Line, Opening};
 
 #[derive(Clone, Copy, Debug, PartialEq, Eq)]
 pub enum Side {
@@ -19,8 +20,8 @@ impl Side {
     /// How long the screen is that the line opens, counted from that side.
     pub fn length(self, line: &Line) -> usize {
         match (line, self) {
-            (Line::Open { n, .. }, Side::Top | Side::Bottom) => usize::from(*n),
-            (Line::Open { m, .. }, Side::Left | Side::Right) => usize::from(*m),
+            (Line::Open(open), Side::Top | Side::Bottom) => usize::from(open.n),
+            (Line::Open(open), Side::Left | Side::Right) => usize::from(open.m),
             _ => 0,
         }
     }
@@ -30,6 +31,7 @@ impl Side {
 struct Window {
     m: usize,
     n: usize,
+    edition: u16,
     columns: Range<usize>,
     rows: Range<usize>,
 }
@@ -41,7 +43,7 @@ pub fn crop(script: &[Line], open: usize, side: Side, length: usize) -> Option<V
     let mut cropped = script.to_vec();
     cropped[open] = window.open();
     let after = &mut cropped[open + 1..];
-    let until = |line: &&mut Line| !matches!(line, Line::Open { .. });
+    let until = |line: &&mut Line| !matches!(line, Line::Open(_));
     for line in after.iter_mut().take_while(until) {
         *line = window.line(line);
     }
@@ -50,18 +52,11 @@ pub fn crop(script: &[Line], open: usize, side: Side, length: usize) -> Option<V
 
 impl Window {
     fn new(open: &Line, side: Side, length: usize) -> Option<Window> {
-        let Line::Open {
-            m,
-            n,
-            chars,
-            attrs,
-            marks,
-        } = *open
-        else {
+        let &Line::Open(opening) = open else {
             return None;
         };
-        let (m, n) = (usize::from(m), usize::from(n));
-        let fit = [chars, attrs, marks] == [m * n; 3];
+        let (m, n) = (usize::from(opening.m), usize::from(opening.n));
+        let fit = lengths(&opening).iter().all(|&each| each == m * n);
         if length == 0 || !fit || length >= side.length(open) {
             return None;
         }
@@ -75,6 +70,7 @@ impl Window {
         Some(Window {
             m,
             n,
+            edition: opening.edition,
             columns,
             rows,
         })
@@ -85,13 +81,14 @@ impl Window {
     }
 
     fn open(&self) -> Line {
-        Line::Open {
+        Line::Open(Opening {
             m: self.columns.len() as u16,
             n: self.rows.len() as u16,
             chars: self.cells(),
             attrs: self.cells(),
             marks: self.cells(),
-        }
+            edition: self.edition,
+        })
     }
 
     fn line(&self, line: &Line) -> Line {

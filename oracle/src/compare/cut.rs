@@ -4,7 +4,8 @@ use super::crop::{crop, Side};
 use super::difference::Difference;
 use super::numbers::{lower, numbers, with_numbers};
 use super::shorten::{bytes, fill, leave_out, lower_each, with_bytes};
-use crate::script::Line;
+use crate::edition::Edition;
+use crate::script::{Line, Opening};
 
 /// Where a script still differs, if it does.
 pub type Differs<'a> = &'a mut dyn FnMut(&[Line]) -> Option<Difference>;
@@ -51,6 +52,7 @@ impl Cutter<'_> {
             self.crop(index);
         }
         for index in 0..self.script.len() {
+            self.september(index);
             self.shorten(index);
             self.lower(index);
         }
@@ -87,6 +89,17 @@ impl Cutter<'_> {
                 let cropped = crop(&self.script, index, side, length);
                 cropped.is_some_and(|script| self.attempt(script))
             });
+        }
+    }
+
+    /// The plainer edition, if the line opens a screen in another.
+    fn september(&mut self, index: usize) {
+        let edition = Edition::September.number();
+        match self.script[index] {
+            Line::Open(open) if open.edition != edition => {
+                self.attempt_line(index, Line::Open(Opening { edition, ..open }));
+            }
+            _ => {}
         }
     }
 

@@ -1,16 +1,14 @@
-//! The numbers of a line, and lower ones in their place.
+//! The numbers of a line, and lower ones in their place. An edition is a
+//! name rather than a number.
 
-use crate::script::Line;
+use crate::script::{Line, Opening};
 
 pub fn numbers(line: &Line) -> Vec<usize> {
     match line {
-        Line::Open {
-            m,
-            n,
-            chars,
-            attrs,
-            marks,
-        } => vec![(*m).into(), (*n).into(), *chars, *attrs, *marks],
+        Line::Open(open) => {
+            let size = [open.m.into(), open.n.into()];
+            [&size[..], &lengths(open)].concat()
+        }
         Line::Cursor(x, y) => vec![(*x).into(), (*y).into()],
         Line::Held(count) => vec![(*count).into()],
         Line::Det(on) | Line::Suppress(on) | Line::Pad(on) => vec![(*on).into()],
@@ -20,16 +18,22 @@ pub fn numbers(line: &Line) -> Vec<usize> {
     }
 }
 
+/// How long the buffers are that an open lends.
+pub fn lengths(open: &Opening) -> [usize; 3] {
+    [open.chars, open.attrs, open.marks]
+}
+
 /// The line with other numbers, none of them higher than its own.
 pub fn with_numbers(line: &Line, numbers: &[usize]) -> Line {
     match (line, numbers) {
-        (Line::Open { .. }, &[m, n, chars, attrs, marks]) => Line::Open {
+        (Line::Open(open), &[m, n, chars, attrs, marks]) => Line::Open(Opening {
             m: m as u16,
             n: n as u16,
             chars,
             attrs,
             marks,
-        },
+            ..*open
+        }),
         (Line::Cursor(..), &[x, y]) => Line::Cursor(x as u8, y as u8),
         (Line::Held(_), &[count]) => Line::Held(count as u8),
         (Line::Det(_), &[on]) => Line::Det(on == 1),

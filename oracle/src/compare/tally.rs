@@ -17,7 +17,7 @@ impl Tally {
         for line in script {
             self.lines += 1;
             match line {
-                Line::Open { .. } => self.open += 1,
+                Line::Open(_) => self.open += 1,
                 Line::Host(..) => self.host += 1,
                 Line::Key(..) => self.key += 1,
                 _ => {}

@@ -3,7 +3,7 @@
 use super::situation::Situation as S;
 use super::Cover;
 use crate::command::{code, error, parameter_count};
-use crate::facilities::{bit, class, governing, Agreed, OWN};
+use crate::facilities::{bit, class, governing, own, Agreed};
 use crate::format::{check_repeat, check_suppress};
 use crate::reply::DET;
 use crate::telnet::{Sub, Verb};
@@ -45,7 +45,8 @@ impl FacilityCounts {
         self.lost = Agreed::default();
     }
 
-    fn executed(&mut self, code: u8, parameters: &[u8], agreed: Agreed) {
+    fn executed(&mut self, code: u8, parameters: &[u8], sight: Sight) {
+        let agreed = sight.agreed;
         let place = usize::from(code);
         self.unagreed[place] += u64::from(agreed.nothing());
         if let Some(bit) = governing(code, Variant::None) {
@@ -54,18 +55,20 @@ impl FacilityCounts {
         }
         for (map, &received) in class(code).zip(parameters) {
             self.lost.0[map] = 0;
-            let (old, new) = (agreed.0[map], received & OWN[map]);
+            let own = own(map, sight.edition, Variant::None);
+            let (old, new) = (agreed.0[map], received & own);
             self.narrowed[place] += u64::from(old & !new != 0);
             self.replaced[place] += u64::from(old & !new != 0 && new & !old != 0);
         }
     }
 
-    fn missed(&mut self, code: u8, agreed: Agreed) {
+    fn missed(&mut self, code: u8, sight: Sight) {
         let Some(bit) = governing(code, Variant::None) else {
             return;
         };
         let (place, map) = (usize::from(code), bit.0 as usize);
-        let missing = OWN[map] & !agreed.0[map];
+        let own = own(map, sight.edition, Variant::None);
+        let missing = own & !sight.agreed.0[map];
         self.missed[place] += u64::from(missing == bit.mask());
         self.lost_error[place] += u64::from(self.lost.has(bit));
     }
@@ -73,10 +76,11 @@ impl FacilityCounts {
 
 impl Cover {
     pub fn facility_executed(&mut self, code: u8, parameters: &[u8], sight: Sight) {
-        self.facilities.executed(code, parameters, sight.agreed);
+        self.facilities.executed(code, parameters, sight);
     }
 
     pub fn facility_error(&mut self, code: u8, number: u8, parameters: &[u8], sight: Sight) {
+        let code = sight.edition.meaning(code);
         let unknown = number == error::UNKNOWN_CODE;
         self.count_if(unknown && sight.agreed.nothing(), S::UnknownUnagreed);
         if !class(code).is_empty() {
@@ -85,7 +89,7 @@ impl Cover {
         if number != error::NOT_AGREED {
             return;
         }
-        self.facilities.missed(code, sight.agreed);
+        self.facilities.missed(code, sight);
         let (known, count) = (parameter_count(code).unwrap_or(0), parameters.len());
         self.count_if(count < known, S::Error1TooFew);
         self.count_if(count > known, S::Error1TooMany);

@@ -130,16 +130,9 @@ impl Cover {
     pub fn marks_refused(&mut self, refusal: Refusal, line: &Line, replay: &Replay) {
         let size = replay.terminal.session.size;
         let (cells, marks) = (size.cells(), &replay.marks);
-        if let Line::Open {
-            m,
-            n,
-            chars,
-            attrs,
-            marks,
-        } = *line
-        {
-            let cells = usize::from(m) * usize::from(n);
-            let alone = chars == cells && attrs == cells && marks != cells;
+        if let Line::Open(open) = *line {
+            let cells = open.cells();
+            let alone = open.chars == cells && open.attrs == cells && open.marks != cells;
             self.count_if(alone && refusal == Refusal::Buffers, S::Refused2Open);
             return;
         }

@@ -1,6 +1,7 @@
 //! Counts what a script exercises.
 
 mod classify;
+mod edition;
 mod facilities;
 mod line;
 mod lines;
@@ -13,27 +14,30 @@ mod table;
 use std::io::{self, BufRead};
 
 use crate::command::code;
+use crate::edition::Edition;
 use crate::refusal::Refusal;
 use crate::replay::{next_line, Replay};
-use crate::screen::Screen;
 use crate::script::Line;
 use crate::size::Size;
 use crate::telnet::Phase;
 use crate::terminal::Outcome;
 use crate::variant::Variant;
+use crate::watch::Sight;
 use facilities::FacilityCounts;
 use pad::PadCounts;
 use situation::Situation;
 
-const REFUSALS: usize = 12;
+const REFUSALS: usize = 13;
+const EDITIONS: usize = Edition::ALL.len();
 const ERRORS: usize = 13;
 
 /// Every count starts at 0; the table asks that each rises.
 pub struct Cover {
-    executed: [u64; 256],
-    /// 38 by its parameter.
-    suppress: [u64; 256],
-    errors: [[u64; 256]; ERRORS],
+    /// By the edition and the code.
+    executed: [[u64; 256]; EDITIONS],
+    /// 38, or June's 37, by its parameter.
+    suppress: [[u64; 256]; EDITIONS],
+    errors: [[[u64; 256]; ERRORS]; EDITIONS],
     open_refused: [u64; REFUSALS],
     host_refused: [u64; REFUSALS],
     key_taken: [u64; 256],
@@ -70,9 +74,9 @@ impl Default for Cover {
 impl Cover {
     pub fn new() -> Cover {
         Cover {
-            executed: [0; 256],
-            suppress: [0; 256],
-            errors: [[0; 256]; ERRORS],
+            executed: [[0; 256]; EDITIONS],
+            suppress: [[0; 256]; EDITIONS],
+            errors: [[[0; 256]; ERRORS]; EDITIONS],
             open_refused: [0; REFUSALS],
             host_refused: [0; REFUSALS],
             key_taken: [0; 256],
@@ -85,7 +89,7 @@ impl Cover {
     }
 
     pub fn run(&mut self, replay: &mut Replay, line: &Line) {
-        if matches!(line, Line::Open { .. }) {
+        if matches!(line, Line::Open(_)) {
             self.facilities.opened();
         }
         let Some(outcome) = replay.run(line, self) else {
@@ -93,6 +97,7 @@ impl Cover {
         };
         if let Some(refusal) = outcome.refusal {
             self.marks_refused(refusal, line, replay);
+            self.edition_refused(refusal, line, replay);
             self.pad_refused(refusal, line, &replay.terminal.session);
         }
         match (line, outcome.refusal) {
@@ -100,7 +105,7 @@ impl Cover {
             (Line::Host(..), Some(refusal)) => raise(&mut self.host_refused, refusal),
             (Line::Key(_, room), None) => self.key_done(replay, *room),
             (Line::Key(key, _), Some(refusal)) => self.key_refused(*key, refusal),
-            (_, None) => self.count(Situation::Opened),
+            (_, None) => self.opened(replay.terminal.session.edition),
             (_, Some(refusal)) => raise(&mut self.open_refused, refusal),
         }
     }
@@ -147,16 +152,18 @@ impl Cover {
         self.key_refused[usize::from(refusal.number())][usize::from(key)] += 1;
     }
 
-    fn executed(&mut self, code: u8, parameters: &[u8], screen: &Screen) {
-        self.executed[usize::from(code)] += 1;
-        if let (code::SUPPRESS_PROTECTION, &[verb]) = (code, parameters) {
-            self.suppress[usize::from(verb)] += 1;
+    fn executed(&mut self, meaning: u8, parameters: &[u8], sight: Sight) {
+        let edition = sight.edition as usize;
+        let code = sight.edition.code(meaning).unwrap_or(meaning);
+        self.executed[edition][usize::from(code)] += 1;
+        if let (code::SUPPRESS_PROTECTION, &[verb]) = (meaning, parameters) {
+            self.suppress[edition][usize::from(verb)] += 1;
         }
-        self.command(code, parameters, screen);
+        self.command(meaning, parameters, sight.screen);
     }
 
-    fn error(&mut self, code: u8, number: u8) {
-        self.errors[usize::from(number)][usize::from(code)] += 1;
+    fn error(&mut self, code: u8, number: u8, edition: Edition) {
+        self.errors[edition as usize][usize::from(number)][usize::from(code)] += 1;
         self.count_if(code == 255, Situation::ErrorNames255);
     }
 }

@@ -52,6 +52,7 @@ impl Watch for Cover {
     fn saw(&mut self, event: Event, sight: Sight) {
         let Sight { screen, det, .. } = sight;
         self.marks(event, sight);
+        self.june(event, sight);
         match event {
             Event::Data(LF) => self.line_feed(sight),
             Event::Data(byte) => self.data(byte, screen),
@@ -68,11 +69,11 @@ impl Watch for Cover {
             }
             Event::ThrownAway(sub) => self.thrown_away(sub, sight.pad),
             Event::Executed(code, parameters) => {
-                self.executed(code, parameters, screen);
+                self.executed(code, parameters, sight);
                 self.facility_executed(code, parameters, sight);
             }
             Event::Error(code, number, parameters) => {
-                self.error(code, number);
+                self.error(code, number, sight.edition);
                 self.facility_error(code, number, parameters, sight);
             }
             Event::Limited(x, y) => self.limited(x, y, screen),

@@ -16,6 +16,25 @@ macro_rules! situations {
 
 situations! {
     Opened "open done";
+    OpenedJune "open done in June's edition";
+    Refused1Edition "open refused 1 with a bad edition besides";
+    Refused12Alone "open refused 12 with all else good";
+    Refused12Buffers "open refused 12 with wrong buffers besides";
+    Refused12Near "open refused 12 for an edition just before or after ours";
+    Refused2June "open refused 2 in June's edition";
+    Refused1June "open refused 1 in June's edition";
+    June27Marks "27 in June with marks";
+    JuneOurs "ERROR 2 by June's DATA TRANSMIT, FIELD SEPARATOR or FN";
+    June41 "ERROR 2 by 41 in June";
+    JuneModifiedBit "June's format facilities with the bit of TRANSMIT MODIFIED";
+    JuneSendMany "key 13 with several fields in June";
+    JuneFunction "function key in June";
+    JuneTyped "typed in an unmarked cell in June";
+    JuneEraseMarks "ERASE SCREEN with marks in June";
+    JuneDont "DONT 20 while on in June";
+    JuneMark "call refused 11 in June";
+    JuneMarks "call refused 2 for the mark buffer alone in June";
+    JuneRoom "call refused 5 with 7C + 2 bytes or more in June";
     NoBytes "host call without bytes";
     FewerTaken "host call that took fewer bytes than it was given";
     HostRoomExact "host call with room for one reply exactly";

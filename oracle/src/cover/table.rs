@@ -6,6 +6,7 @@ use super::pad::STYLES;
 use super::situation::Situation;
 use super::Cover;
 use crate::command::{code, error, parameter_count};
+use crate::edition::Edition;
 use crate::facilities::{class, governing};
 use crate::pad::parameters::{admits, NUMBERS};
 use crate::variant::Variant;
@@ -41,7 +42,25 @@ impl Rows {
 }
 
 fn known_codes() -> impl Iterator<Item = u8> {
-    (0..=255).filter(|&code| parameter_count(code).is_some())
+    codes(Edition::September)
+}
+
+/// The codes that an edition's commands have.
+fn codes(edition: Edition) -> impl Iterator<Item = u8> {
+    (0..=255).filter(move |&code| count(edition, code).is_some())
+}
+
+/// How many parameters a code takes in an edition.
+fn count(edition: Edition, code: u8) -> Option<usize> {
+    parameter_count(edition.meaning(code))
+}
+
+/// What a label has before a code.
+fn named(edition: Edition) -> &'static str {
+    match edition {
+        Edition::June => "June's code",
+        Edition::September => "code",
+    }
 }
 
 fn governed_codes() -> impl Iterator<Item = u8> {
@@ -61,8 +80,11 @@ fn choices(number: u8) -> usize {
 impl Cover {
     fn rows(&self) -> Rows {
         let mut rows = Rows::default();
-        self.command_rows(&mut rows);
-        self.error_rows(&mut rows);
+        for edition in Edition::ALL.into_iter().rev() {
+            self.command_rows(&mut rows, edition);
+            self.error_rows(&mut rows, edition);
+        }
+        self.june_rows(&mut rows);
         self.refusal_rows(&mut rows);
         self.key_rows(&mut rows);
         self.pad_rows(&mut rows);
@@ -76,47 +98,58 @@ impl Cover {
         rows
     }
 
-    fn command_rows(&self, rows: &mut Rows) {
-        for code in known_codes().filter(|&code| code != code::SUPPRESS_PROTECTION) {
-            rows.row(
-                format!("code {code} executed"),
-                self.executed[usize::from(code)],
-            );
+    fn command_rows(&self, rows: &mut Rows, edition: Edition) {
+        let name = named(edition);
+        let suppress = edition.code(code::SUPPRESS_PROTECTION).unwrap_or(0);
+        for code in codes(edition).filter(|&code| code != suppress) {
+            let count = self.executed[edition as usize][usize::from(code)];
+            rows.row(format!("{name} {code} executed"), count);
         }
         for verb in 251..=254 {
-            rows.row(format!("code 38 {verb} executed"), self.suppress[verb]);
+            let count = self.suppress[edition as usize][verb];
+            rows.row(format!("{name} {suppress} {verb} executed"), count);
         }
     }
 
-    fn error_rows(&self, rows: &mut Rows) {
-        let by = |number: u8| &self.errors[usize::from(number)];
-        let unknown = (0..=255).filter(|&code| parameter_count(code).is_none());
-        rows.least(
-            "ERROR 2 by each unknown code",
-            by(error::UNKNOWN_CODE),
-            unknown,
-        );
-        rows.row("ERROR 3 by code 5", by(error::OFF_SCREEN)[5]);
-        for code in known_codes() {
+    fn error_rows(&self, rows: &mut Rows, edition: Edition) {
+        let name = named(edition);
+        let by = |number: u8| &self.errors[edition as usize][usize::from(number)];
+        let unknown = (0..=255).filter(|&code| count(edition, code).is_none());
+        let label = match edition {
+            Edition::June => "ERROR 2 by each code unknown in June",
+            Edition::September => "ERROR 2 by each unknown code",
+        };
+        rows.least(label, by(error::UNKNOWN_CODE), unknown);
+        rows.row(format!("ERROR 3 by {name} 5"), by(error::OFF_SCREEN)[5]);
+        for code in codes(edition) {
             let count = by(error::TOO_MANY)[usize::from(code)];
-            rows.row(format!("ERROR 9 by code {code}"), count);
+            rows.row(format!("ERROR 9 by {name} {code}"), count);
         }
-        for code in known_codes().filter(|&code| parameter_count(code) != Some(0)) {
+        for code in codes(edition).filter(|&code| count(edition, code) != Some(0)) {
             let count = by(error::TOO_FEW)[usize::from(code)];
-            rows.row(format!("ERROR 10 by code {code}"), count);
+            rows.row(format!("ERROR 10 by {name} {code}"), count);
         }
-        rows.row("ERROR 10 by no code", by(error::TOO_FEW)[0]);
-        for code in [36, 37, 38] {
-            rows.row(
-                format!("ERROR 11 by code {code}"),
-                by(error::BAD_VALUE)[code],
-            );
+        rows.row(format!("ERROR 10 by no {name}"), by(error::TOO_FEW)[0]);
+        let first = edition.code(code::FORMAT_DATA).unwrap_or(0);
+        for code in first..first + 3 {
+            let count = by(error::BAD_VALUE)[usize::from(code)];
+            rows.row(format!("ERROR 11 by {name} {code}"), count);
         }
-        rows.row("ERROR 12 by code 36", by(error::BAD_MAP)[36]);
+        let count = by(error::BAD_MAP)[usize::from(first)];
+        rows.row(format!("ERROR 12 by {name} {first}"), count);
+    }
+
+    fn june_rows(&self, rows: &mut Rows) {
+        let errors = &self.errors[Edition::June as usize][usize::from(error::NOT_AGREED)];
+        let governed = |&code: &u8| governing(Edition::June.meaning(code), Variant::None).is_some();
+        for code in codes(Edition::June).filter(governed) {
+            let count = errors[usize::from(code)];
+            rows.row(format!("ERROR 1 by June's code {code}"), count);
+        }
     }
 
     fn refusal_rows(&self, rows: &mut Rows) {
-        for number in 1..=2 {
+        for number in [1, 12, 2] {
             rows.row(format!("open refused {number}"), self.open_refused[number]);
         }
         for number in [1, 2, 3, 4, 11, 5] {
@@ -151,7 +184,8 @@ impl Cover {
         let counts = &self.facilities;
         for code in governed_codes() {
             let place = usize::from(code);
-            let errors = self.errors[usize::from(error::NOT_AGREED)][place];
+            let september = &self.errors[Edition::September as usize];
+            let errors = september[usize::from(error::NOT_AGREED)][place];
             rows.row(format!("ERROR 1 by code {code}"), errors);
             let label = format!("ERROR 1 by code {code} after DONT 20 took its facility");
             rows.row(label, counts.lost_error[place]);
@@ -166,7 +200,8 @@ impl Cover {
         }
         for code in known_codes().filter(|&code| !class(code).is_empty()) {
             let place = usize::from(code);
-            rows.row(format!("code {code} received"), self.executed[place]);
+            let received = self.executed[Edition::September as usize][place];
+            rows.row(format!("code {code} received"), received);
             rows.row(format!("code {code} that narrows"), counts.narrowed[place]);
             let label = format!("code {code} that narrows and widens a map");
             rows.row(label, counts.replaced[place]);

@@ -2,6 +2,7 @@
 
 use super::{class, own, Bit, Map, MAPS};
 use crate::command::code;
+use crate::edition::Edition;
 use crate::variant::Variant;
 
 /// For each map the bits that were both received and sent. The default is
@@ -19,13 +20,13 @@ impl Agreed {
     }
 
     /// A facility command's maps: they replace what its class had before.
-    pub fn receive(&mut self, code: u8, received: &[u8], variant: Variant) {
+    pub fn receive(&mut self, code: u8, received: &[u8], edition: Edition, variant: Variant) {
         let before = self.0;
         if variant == Variant::MapsForgetOthers {
             *self = Agreed::default();
         }
         for (place, &map) in class(code).zip(received) {
-            let new = intersection(place, map, variant);
+            let new = intersection(map, own(place, edition, variant), place, variant);
             let old = before[place];
             self.0[place] = match variant {
                 Variant::MapsAccumulate => old | new,
@@ -56,8 +57,7 @@ impl Agreed {
 }
 
 /// Bit by bit, the intensity bits too.
-fn intersection(place: usize, received: u8, variant: Variant) -> u8 {
-    let own = own(place, variant);
+fn intersection(received: u8, own: u8, place: usize, variant: Variant) -> u8 {
     let both = received & own;
     match variant {
         Variant::MapsReceived => received,

@@ -6,6 +6,7 @@ mod mistaken;
 mod wrong;
 
 use crate::command::code;
+use crate::edition::Edition;
 use crate::variant::Variant;
 pub use agreed::Agreed;
 
@@ -21,14 +22,19 @@ pub enum Map {
 
 pub const MAPS: usize = 5;
 
-/// The terminal's own maps.
+/// The terminal's own maps; June has no bit for TRANSMIT MODIFIED.
 pub const OWN: [u8; MAPS] = [126, 0b1_1111, 63, 208, 121];
+const JUNE_FORMAT_0: u8 = 144;
 
 /// One of them, as a variant has it.
-pub fn own(place: usize, variant: Variant) -> u8 {
+pub fn own(place: usize, edition: Edition, variant: Variant) -> u8 {
+    let june = edition == Edition::June;
     match (variant, place) {
         (Variant::EditMapOld, 0) => 54,
         (Variant::FormatMapOld, 3) => 144,
+        (Variant::JuneMap208 | Variant::EditionIgnored, 3) => OWN[place],
+        (Variant::JuneMap16, 3) if june => 16,
+        (_, 3) if june => JUNE_FORMAT_0,
         _ => OWN[place],
     }
 }

@@ -66,11 +66,6 @@ impl Desk<'_> {
         }
     }
 
-    /// The maps are taken, but not answered.
-    pub fn note(&mut self, code: u8, maps: &[u8]) {
-        self.agreed.receive(code, maps, self.variant);
-    }
-
     /// A facility command while DET is off.
     pub fn note_while_off(&mut self, held: &[u8]) {
         if let (Variant::FacilityWhileOff, Some((&code, maps))) = (self.variant, held.split_first())

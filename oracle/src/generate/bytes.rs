@@ -2,6 +2,7 @@
 
 use super::Generator;
 use crate::command::{code, parameter_count};
+use crate::edition::Edition;
 use crate::pad::PAD;
 use crate::reply::DET;
 use crate::telnet::{Verb, IAC, SB, SE};
@@ -31,7 +32,7 @@ pub fn subnegotiation(bytes: &mut Vec<u8>, option: u8, inside: &[u8]) {
 impl Generator {
     /// One thing that a host might send.
     pub fn atom(&mut self, bytes: &mut Vec<u8>) {
-        const WEIGHTS: [usize; 17] = [40, 14, 10, 6, 7, 3, 14, 5, 2, 1, 6, 4, 4, 6, 4, 3, 2];
+        const WEIGHTS: [usize; 18] = [40, 14, 10, 6, 7, 3, 20, 5, 2, 1, 6, 4, 4, 6, 4, 3, 2, 2];
         match self.rng.weighted(&WEIGHTS) {
             0 => self.command(bytes),
             1 => self.move_cursor(bytes),
@@ -49,6 +50,7 @@ impl Generator {
             13 => self.narrow(bytes),
             14 => self.whole_lines(bytes),
             15 => self.modified(bytes),
+            16 => self.other_edition(bytes),
             _ => self.start_again(bytes),
         }
     }
@@ -84,15 +86,27 @@ impl Generator {
         subnegotiation(bytes, DET, &inside);
     }
 
+    /// A command with its parameters, by this edition's code.
+    pub fn det(&self, bytes: &mut Vec<u8>, meaning: u8, parameters: &[u8]) {
+        let inside = [&[self.code(meaning)], parameters].concat();
+        subnegotiation(bytes, DET, &inside);
+    }
+
+    /// What an edition lacks goes by September's code.
+    fn code(&self, meaning: u8) -> u8 {
+        self.edition.code(meaning).unwrap_or(meaning)
+    }
+
     /// Those with most cases more often; ERASE SCREEN, which ends every
-    /// form, more seldom.
+    /// form, more seldom, and what the edition lacks.
     fn known_code(&mut self) -> u8 {
         loop {
             let code = match self.rng.below(4) {
                 0 => self.rng.pick(&[6, 7, 7, 12, 12, 15, 16, 19, 23, 26, 37]),
                 _ => self.rng.within(1, 41) as u8,
             };
-            let spared = code == code::ERASE_SCREEN && !self.rng.once_in(4);
+            let spared = code == code::ERASE_SCREEN || self.edition.code(code).is_none();
+            let spared = spared && !self.rng.once_in(4);
             if parameter_count(code).is_some() && !spared {
                 return code;
             }
@@ -100,9 +114,20 @@ impl Generator {
     }
 
     fn inside(&mut self, code: u8) -> Vec<u8> {
-        let mut inside = vec![code];
+        let mut inside = vec![self.code(code)];
         inside.extend(self.parameters(code));
         inside
+    }
+
+    /// A host that follows the other edition.
+    fn other_edition(&mut self, bytes: &mut Vec<u8>) {
+        let own = self.edition;
+        self.edition = match own {
+            Edition::June => Edition::September,
+            Edition::September => Edition::June,
+        };
+        self.command(bytes);
+        self.edition = own;
     }
 
     fn suppress(&mut self, bytes: &mut Vec<u8>) {
@@ -133,7 +158,7 @@ impl Generator {
         let [high, low] = (count as u16).to_be_bytes();
         let map = self.rng.pick(&PALETTE);
         subnegotiation(bytes, DET, &[code::MOVE_CURSOR, at.x.0, at.y.0]);
-        subnegotiation(bytes, DET, &[code::FORMAT_DATA, map, 0, high, low]);
+        self.det(bytes, code::FORMAT_DATA, &[map, 0, high, low]);
     }
 
     pub fn text(&mut self, bytes: &mut Vec<u8>) {
@@ -197,16 +222,37 @@ impl Generator {
 
     /// A code of any kind with a number of parameters of any kind.
     pub fn wrong_command(&mut self, bytes: &mut Vec<u8>) {
-        let code = match self.rng.below(6) {
-            0 | 1 => self.known_code(),
-            2 => self.rng.pick(&[5, 36, 36, 37, 38, 41, 255]),
-            _ => self.codes.next(),
+        let inside = match self.rng.below(6) {
+            0 | 1 => {
+                let code = self.rng.within(1, 41) as u8;
+                self.inside(code)
+            }
+            2 => {
+                let code = self.rng.pick(&[5, 36, 36, 37, 38, 41, 255]);
+                self.inside(code)
+            }
+            _ => self.swept(),
         };
-        self.wrong_parameters(bytes, code);
+        self.spoilt(bytes, inside);
+    }
+
+    /// Any code, with parameters for what it means.
+    fn swept(&mut self) -> Vec<u8> {
+        let code = match self.edition {
+            Edition::June => self.june_codes.next(),
+            Edition::September => self.september_codes.next(),
+        };
+        let mut inside = vec![code];
+        inside.extend(self.parameters(self.edition.meaning(code)));
+        inside
     }
 
     pub fn wrong_parameters(&mut self, bytes: &mut Vec<u8>, code: u8) {
-        let mut inside = self.inside(code);
+        let inside = self.inside(code);
+        self.spoilt(bytes, inside);
+    }
+
+    fn spoilt(&mut self, bytes: &mut Vec<u8>, mut inside: Vec<u8>) {
         match self.rng.weighted(&[4, 6, 6, 4, 2, 1, 2]) {
             0 => inside.truncate(1),
             1 => _ = inside.pop(),

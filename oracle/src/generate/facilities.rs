@@ -4,7 +4,7 @@
 use super::bytes::subnegotiation;
 use super::Generator;
 use crate::command::code;
-use crate::facilities::{class, governing, Bit, OWN};
+use crate::facilities::{class, governing, own, Bit};
 use crate::reply::DET;
 use crate::script::Line;
 use crate::telnet::{Verb, IAC};
@@ -110,7 +110,7 @@ impl Generator {
     /// Mostly one that we have.
     fn bit(&mut self, place: usize) -> u8 {
         let bit = 1 << self.rng.below(8);
-        match OWN[place] & bit == 0 && !self.rng.once_in(4) {
+        match own(place, self.edition, Variant::None) & bit == 0 && !self.rng.once_in(4) {
             true => self.bit(place),
             false => bit,
         }

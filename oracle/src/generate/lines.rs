@@ -24,8 +24,7 @@ impl Generator {
         }
         if self.rng.once_in(5) {
             let verb = self.rng.pick(&[Verb::Do, Verb::Dont]);
-            let inside = [code::SUPPRESS_PROTECTION, verb.byte()];
-            subnegotiation(bytes, DET, &inside);
+            self.det(bytes, code::SUPPRESS_PROTECTION, &[verb.byte()]);
         }
         if self.rng.once_in(2) {
             self.text(bytes);
@@ -79,7 +78,7 @@ impl Generator {
     fn format_cells(&mut self, bytes: &mut Vec<u8>, cell: usize, map: u8, count: usize) {
         let [high, low] = (count as u16).to_be_bytes();
         self.go_to(bytes, cell);
-        subnegotiation(bytes, DET, &[code::FORMAT_DATA, map, 0, high, low]);
+        self.det(bytes, code::FORMAT_DATA, &[map, 0, high, low]);
     }
 
     fn go_to(&mut self, bytes: &mut Vec<u8>, cell: usize) {

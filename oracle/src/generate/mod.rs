@@ -11,6 +11,7 @@ mod pad;
 mod parameters;
 mod raw;
 
+use crate::edition::Edition;
 use crate::pad::parameters::Parameters;
 use crate::rng::Rng;
 use crate::script::Line;
@@ -35,12 +36,14 @@ struct Generator {
     lines: Vec<Line>,
     calls: usize,
     size: Size,
+    edition: Edition,
     /// Option 30's parameters as the script has set them, unless a call was
     /// refused or cut short.
     noted: Parameters,
     keys: Sweep,
     line_keys: Sweep,
-    codes: Sweep,
+    june_codes: Sweep,
+    september_codes: Sweep,
 }
 
 /// Roughly how many short replies those bytes draw.
@@ -62,16 +65,19 @@ impl Generator {
     fn new(seed: u64) -> Generator {
         let mut rng = Rng::new(seed);
         let mut sweep = || Sweep(rng.byte());
-        let (keys, line_keys, codes) = (sweep(), sweep(), sweep());
+        let (keys, line_keys) = (sweep(), sweep());
+        let (june_codes, september_codes) = (sweep(), sweep());
         Generator {
             rng,
             lines: Vec::new(),
             calls: 0,
             size: Size::default(),
+            edition: Edition::default(),
             noted: Parameters::default(),
             keys,
             line_keys,
-            codes,
+            june_codes,
+            september_codes,
         }
     }
 

@@ -1,8 +1,9 @@
 //! Opens, taken and refused, and what follows a taken one.
 
 use super::Generator;
+use crate::edition::Edition;
 use crate::pad::parameters::Parameters;
-use crate::script::Line;
+use crate::script::{Line, Opening};
 use crate::size::Size;
 
 /// Sizes past their range by one or by much.
@@ -18,6 +19,9 @@ const BAD_SIZES: [(u16, u16); 10] = [
     (2, 257),
     (65_535, 65_535),
 ];
+
+/// Near the two editions, the same in their low bytes, or far off.
+const BAD_EDITIONS: [u16; 9] = [730, 733, 730, 733, 0, 219, 220, 987, 65_535];
 
 /// Rare, since each answer prints the whole screen. None has more than the
 /// 7,281 cells that programs keep to.
@@ -52,15 +56,44 @@ impl Generator {
     }
 
     pub fn refused_open(&mut self) {
+        match self.rng.below(7) {
+            0 | 1 => self.open_bad_size(),
+            2 | 3 => self.open_bad_edition(),
+            _ => self.open_wrong_buffers(),
+        }
+        self.after_refused_open();
+    }
+
+    /// A bad size, with or without a bad edition and wrong buffers.
+    fn open_bad_size(&mut self) {
         let (m, n) = self.rng.pick(&BAD_SIZES);
         let cells = usize::from(m) * usize::from(n);
-        let lengths = match self.rng.below(5) {
-            0 => [cells; 3],
-            1 => [(); 3].map(|()| self.rng.below(9)),
-            _ => return self.open_wrong_buffers(),
+        let lengths = match self.rng.once_in(2) {
+            true => [cells; 3],
+            false => [(); 3].map(|()| self.rng.below(9)),
         };
-        self.push_open(m, n, lengths.map(|length| length.min(8_448)));
-        self.after_refused_open();
+        let edition = match self.rng.once_in(3) {
+            true => self.rng.pick(&BAD_EDITIONS),
+            false => self.good_edition(),
+        };
+        self.push_open(m, n, lengths.map(|length| length.min(8_448)), edition);
+    }
+
+    /// A bad edition, with or without wrong buffers.
+    fn open_bad_edition(&mut self) {
+        let size = self.small_size();
+        let cells = size.cells();
+        let edition = self.rng.pick(&BAD_EDITIONS);
+        let lengths = match self.rng.below(3) {
+            0 => [cells, cells, cells - 1],
+            1 => [cells + 1; 3],
+            _ => [cells; 3],
+        };
+        self.push_open(size.m.into(), size.n.into(), lengths, edition);
+    }
+
+    fn good_edition(&mut self) -> u16 {
+        self.rng.pick(&Edition::ALL).number()
     }
 
     /// One buffer of a wrong length, or some.
@@ -73,23 +106,26 @@ impl Generator {
         if self.rng.once_in(3) {
             lengths[self.rng.below(3)] = other;
         }
-        self.push_open(size.m.into(), size.n.into(), lengths);
-        self.after_refused_open();
+        let edition = self.good_edition();
+        self.push_open(size.m.into(), size.n.into(), lengths, edition);
     }
 
-    fn push_open(&mut self, m: u16, n: u16, [chars, attrs, marks]: [usize; 3]) {
-        self.push(Line::Open {
+    fn push_open(&mut self, m: u16, n: u16, lengths: [usize; 3], edition: u16) {
+        let [chars, attrs, marks] = lengths;
+        self.push(Line::Open(Opening {
             m,
             n,
             chars,
             attrs,
             marks,
-        });
+            edition,
+        }));
     }
 
     /// Buffers of no length let refusal 1 stand alone.
     fn after_refused_open(&mut self) {
         self.size = Size { m: 1, n: 1 };
+        self.edition = Edition::default();
         if self.rng.once_in(3) {
             self.push(Line::Chars(Vec::new()));
             self.push(Line::Attrs(Vec::new()));
@@ -111,7 +147,9 @@ impl Generator {
     pub fn open_sized(&mut self, size: Size) {
         self.size = size;
         self.noted = Parameters::default();
-        self.push_open(size.m.into(), size.n.into(), [size.cells(); 3]);
+        self.edition = self.rng.pick(&Edition::ALL);
+        let edition = self.edition.number();
+        self.push_open(size.m.into(), size.n.into(), [size.cells(); 3], edition);
     }
 
     fn small_size(&mut self) -> Size {

@@ -4,7 +4,7 @@ use oracle::compare::cut::cut;
 use oracle::compare::difference::Difference;
 use oracle::compare::numbers::numbers;
 use oracle::generate;
-use oracle::script::Line;
+use oracle::script::{Line, Opening};
 
 fn at(line: usize) -> Difference {
     Difference {
@@ -73,14 +73,14 @@ fn bytes_are_left_out_and_made_plain() {
 #[test]
 fn numbers_are_lowered() {
     let script =
-        lines("open 65535 9 8 7 7\ncursor 200 100\nheld 9\ndet 1\nsuppress 1\nkey 143 80000");
+        lines("open 65535 9 8 7 7 732\ncursor 200 100\nheld 9\ndet 1\nsuppress 1\nkey 143 80000");
     let left = cut_down(&script, |before, line| {
-        let first = matches!(before.first(), Some(Line::Open { m: 300.., .. }));
+        let first = matches!(before.first(), Some(Line::Open(Opening { m: 300.., .. })));
         let second = matches!(before.get(1), Some(Line::Cursor(3.., 7..)));
         let rest = before.get(2..) == Some(&lines("held 9\ndet 1\nsuppress 1"));
         first && second && rest && matches!(line, Line::Key(143, 1_234..))
     });
-    let expected = "open 300 0 0 0 0\ncursor 3 7\nheld 9\ndet 1\nsuppress 1\nkey 143 1234";
+    let expected = "open 300 0 0 0 0 732\ncursor 3 7\nheld 9\ndet 1\nsuppress 1\nkey 143 1234";
     assert_eq!(left.join("\n"), expected);
 }
 
@@ -90,17 +90,17 @@ fn a_screen_is_cropped_with_its_buffers() {
     let mut bytes = vec![b'.'; 40 * 12];
     bytes[7 * 40 + 13] = b'Z';
     let mut script = generate::script(3, 20);
-    script.extend(lines("open 40 12 480 480 480\nstate"));
+    script.extend(lines("open 40 12 480 480 480 732\nstate"));
     script.extend([Line::Chars(bytes), Line::State]);
     let left = cut_down(&script, |before, line| {
-        let opens = |line: &&Line| matches!(line, Line::Open { .. });
+        let opens = |line: &&Line| matches!(line, Line::Open(_));
         let (Some(open), Line::Chars(bytes)) = (before.iter().rfind(opens), line) else {
             return false;
         };
         let fits = numbers(open)[2..] == [bytes.len(); 3];
         fits && bytes.contains(&b'Z')
     });
-    assert_eq!(left, ["open 0 0 1 1 1", "chars 5a"]);
+    assert_eq!(left, ["open 0 0 1 1 1 732", "chars 5a"]);
 }
 
 #[test]

@@ -50,7 +50,7 @@ fn a_difference_is_cut_down() {
     assert_eq!(output.status.code(), Some(1));
     let text = stdout(&output);
     assert!(text.contains("\ncut down to 2 of "), "{text}");
-    assert!(text.contains(" lines:\n\nopen 1 1 1 1 1\n"), "{text}");
+    assert!(text.contains(" lines:\n\nopen 1 1 1 1 1 732\n"), "{text}");
     assert!(text.contains("\n\nline 2 differs\noracle: "), "{text}");
     assert!(text.contains("\nother:  5 0 0 "), "{text}");
 }

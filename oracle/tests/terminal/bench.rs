@@ -1,6 +1,8 @@
 //! A terminal with buffers of its own, for tests.
 
+use oracle::edition::Edition;
 use oracle::refusal::Refusal;
+use oracle::session::Session;
 use oracle::size::{Position, X, Y};
 use oracle::terminal::{Buffers, Lent, Outcome, Terminal};
 use oracle::watch::Unwatched;
@@ -15,8 +17,24 @@ pub struct Bench {
 }
 
 impl Bench {
-    /// An open screen with room for many replies.
+    /// An open screen with room for many replies, September's edition.
     pub fn open(m: u16, n: u16) -> Bench {
+        Bench::open_in(m, n, 732)
+    }
+
+    /// Form F in June's edition, with the cursor at (x, y).
+    pub fn june(x: u8, y: u8) -> Bench {
+        let mut bench = Bench::form_f(x, y);
+        bench.terminal.session = Session {
+            edition: Edition::June,
+            agreed: Default::default(),
+            ..bench.terminal.session
+        };
+        bench.agree_all();
+        bench
+    }
+
+    pub fn open_in(m: u16, n: u16, edition: u16) -> Bench {
         let cells = usize::from(m * n);
         let mut bench = Bench {
             terminal: Terminal::default(),
@@ -27,7 +45,8 @@ impl Bench {
             reply: Vec::new(),
         };
         let (terminal, lent) = bench.lend();
-        assert_eq!(terminal.open(m, n, lent.buffers), Outcome::default());
+        let outcome = terminal.open(m, n, edition, lent.buffers);
+        assert_eq!(outcome, Outcome::default());
         bench
     }
 

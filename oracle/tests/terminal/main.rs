@@ -1,6 +1,7 @@
 //! The terminal's rules, call by call.
 
 mod bench;
+mod editions;
 mod facilities;
 mod lines;
 mod marks;

@@ -129,6 +129,7 @@ fn sizes() {
         Terminal::default().open(
             m,
             n,
+            732,
             Buffers {
                 chars,
                 attrs,

@@ -16,7 +16,7 @@ written c =
     let f = r .before .before .before .before in
     let t = f .before .before in
     session-stored (t .before .before .args .session) (t .if1 .left) (f .put-frame .ensures) (r .put-reader .ensures) (p .put-pad .ensures)
-    (m .put-maps .ensures)
+    (m .put-rest .ensures)
 
 pub encode-spec : {M : Type 1} → statement M
 encode-spec = tie.close (tie.spec elsewhere (search needs) (search needs) (search needs) (search needs) (search needs) written)

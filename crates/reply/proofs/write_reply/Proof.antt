@@ -17,16 +17,25 @@ three : tie.Need-returns-4
 three c = let p = c .before .before in rw (p .before .before .before .before .say3 .given .1) (p .put-message2 .ensures)
 
 preface : tie.Need-returns-5
-preface c = let p = c .before .before in rw (p .before .before .before .say4 .given .1) (p .put-preface .ensures)
+preface c =
+    let p = c .before .before in
+    let d = p .before .before in
+    rw (d .before .before .say4 .given .1, ← d .data-transmit .ensures) (p .put-preface .ensures)
 
 text : tie.Need-returns-6
-text c = let p = c .before .before in rw (p .before .before .before .say5 .given .1) (p .put-text .ensures)
+text c =
+    let p = c .before .before in
+    let d = p .before .before in
+    rw (d .before .before .say5 .given .1, ← d .data-transmit2 .ensures) (p .put-text .ensures)
 
 fields : tie.Need-returns-7
 fields c = let p = c .before .before in rw (p .before .before .before .say6 .given .1) (p .put-form .ensures)
 
 modified : tie.Need-returns-8
-modified c = let p = c .before .before in rw (p .before .before .before .say7 .given .1) (p .put-modified .ensures)
+modified c =
+    let p = c .before .before in
+    let d = p .before .before in
+    rw (d .before .before .say7 .given .1, ← d .data-transmit3 .ensures) (p .put-modified .ensures)
 
 pub write-reply-spec : {M : Type 1} → statement M
 write-reply-spec =
@@ -34,6 +43,6 @@ write-reply-spec =
     (tie.spec
     (search needs) (search needs) (search needs) (search needs) (search needs) (search needs) (search needs) (search needs)
     (search needs) (search needs) (search needs) (search needs) (search needs) (search needs) (search needs)
-    (search needs) (search needs)
+    (search needs) (search needs) (search needs) (search needs) (search needs)
     silent (search needs) negotiation (search needs) two (search needs) three
     (search needs) preface (search needs) text (search needs) fields (search needs) modified)

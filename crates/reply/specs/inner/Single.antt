@@ -8,9 +8,10 @@ use Rattle.screen.specs.Fields.{opensAt}
 use Rattle.reply.specs.Pieces.{textPiece, separatorPieces}
 
 -- the n of them from a cell on, none of which is the first of all
-unfoldable pub singlePieces : List ℕ → ℕ → ℕ → List (List ℕ)
-singlePieces chars cell zero = []
-singlePieces chars cell (suc n) = separatorPieces false ++ (textPiece cell (cell + 1) chars ∷ singlePieces chars (suc cell) n)
+unfoldable pub singlePieces : ℕ → List ℕ → ℕ → ℕ → List (List ℕ)
+singlePieces code chars cell zero = []
+singlePieces code chars cell (suc n) =
+    separatorPieces code false ++ (textPiece cell (cell + 1) chars ∷ singlePieces code chars (suc cell) n)
 
 -- an unprotected field starts at each of the n cells after this one
 pub record EachOpens (attrs : List ℕ) (cell n : ℕ) : Type 0 where

@@ -18,7 +18,8 @@ use Rattle.edit.specs.Edits.{deleted, inserted, shifted, onPart, erased, filled
 use Rattle.screen.specs.Classes.{takes}
 use Rattle.rules.specs.Session.{allPrintable, allMarks, padOk, sessionOk}
 use Rattle.rules.specs.Facility.{weight, ownMap, receiving, agreed}
-use Rattle.rules.specs.Refusal.{verdict, sizeTests, stateTests}
+use Rattle.rules.specs.Edition.{isEdition, editionOf, nameOf, codeFor, meantBy, holds}
+use Rattle.rules.specs.Refusal.{verdict, openTests, sizeTests, stateTests}
 use Rattle.rules.specs.Command.{rows, rowIn, meaning, reaches, valueFault, faultOf}
 use Rattle.rules.specs.Effect.{changed, changedAll, marksAfter, spelled, spelledAll}
 use Rattle.rules.specs.Cursor.{
@@ -58,7 +59,7 @@ unfoldable pub computing : ℕ
 unfolding bit parameters lines messages responses keys echoes printsLf reader doubled subnegotiation negotiation firstOf lastOf tabulate
     protectedAt startsAt opensAt fieldStart fieldEnd spanEnd
     nextOpen deleted inserted shifted onPart erased filled someMarked takes allPrintable allMarks padOk sessionOk weight ownMap receiving
-    agreed verdict sizeTests stateTests rows rowIn
+    agreed isEdition editionOf nameOf codeFor meantBy holds verdict openTests sizeTests stateTests rows rowIn
     meaning reaches valueFault faultOf changed changedAll marksAfter spelled spelledAll linesDown skippedToChar
     nextCell homeCell backTabCell firstFieldCell nextFieldCell previousOpenCell destination
     holding heldAfter crAfter optionOf isOn accepts turned switchedOn switchedOff negotiated hostCharacter hostCharacters

@@ -16,10 +16,13 @@ use Rattle.pad.specs.declared.message.Stage.{Stage}
 use Rattle.pad.specs.declared.message.Stage.the-variants.{Code, Parameter, Value}
 use Rattle.screen.specs.Cells.{place}
 use Rattle.rules.specs.declared.Reader.{Reader}
+use Rattle.rules.specs.declared.Edition.{Edition}
+use Rattle.rules.specs.declared.Edition.the-variants.{June, September}
 use Rattle.rules.specs.declared.Frame.{Frame}
 use Rattle.rules.specs.declared.Maps.{Maps}
 use Rattle.rules.specs.declared.Pad.{Pad}
 use Rattle.rules.specs.Session.{Screen, State, noMaps, freshPad, session, placed, switched, withX3, withReceived, screen, state}
+use Rattle.rules.specs.Edition.{nameOf}
 use Rattle.rules.specs.Refusal.{numberOf}
 use Rattle.rules.specs.Operation.{Outcome, opened}
 use Rattle.rules.specs.Call.{Call, host, key, called, left}
@@ -121,27 +124,27 @@ fullIn (t ∷ ts) (b ∷ bs) = inFull (t .room) b ∷ fullIn ts bs
 
 pub data Case : Type 0 where
   case : String → State → List Trial → Case  -- the title, the start, the calls
-  opening : String → ℕ → ℕ → Screen → ℕ → State → Case  -- an open of m by n with these buffers: the refusal, and what is left
+  opening : String → ℕ → ℕ → ℕ → Screen → ℕ → State → Case  -- an open of m by n in this edition with these buffers: refusal, what is left
 
 abbrev pub titleOf : Case → String
 titleOf (case title s ts) = title
-titleOf (opening title m n b refusal s) = title
+titleOf (opening title m n named b refusal s) = title
 
 abbrev pub observedOf : Case → List Seen
 observedOf (case title s ts) = observedIn s ts
-observedOf (opening title m n b refusal s) = look (opened m n b) ∷ []
+observedOf (opening title m n named b refusal s) = look (opened m n named b) ∷ []
 
 abbrev pub told : Case → List Brief
 told (case title s ts) = toldIn s ts
-told (opening title m n b refusal s) = tell (opened m n b) ∷ []
+told (opening title m n named b refusal s) = tell (opened m n named b) ∷ []
 
 abbrev pub stated : Case → List Brief
 stated (case title s ts) = statedIn s ts
-stated (opening title m n b refusal s) = brief refusal 0 s [] ∷ []
+stated (opening title m n named b refusal s) = brief refusal 0 s [] ∷ []
 
 abbrev pub fullOf : Case → List Brief → List Seen
 fullOf (case title s ts) bs = fullIn ts bs
-fullOf (opening title m n b refusal s) bs = map (λ b. inFull 0 b) bs
+fullOf (opening title m n named b refusal s) bs = map (λ b. inFull 0 b) bs
 
 abbrev pub observed : List Case → List (List Seen)
 observed cases = map (λ c. observedOf c) cases
@@ -170,7 +173,7 @@ numbers b =
     let f = b .left .session .frame in
     let m = f .received in
     let r = b .left .session .reader in
-    b .refusal ∷ b .taken ∷ f .width ∷ f .height ∷ f .cursor .x .0 ∷ f .cursor .y .0
+    b .refusal ∷ b .taken ∷ f .width ∷ f .height ∷ nameOf (f .edition) ∷ f .cursor .x .0 ∷ f .cursor .y .0
     ∷ flag (f .det) ∷ flag (f .x3) ∷ flag (f .suppressed) ∷ m .edit ∷ m .erase ∷ m .transmit ∷ m .format0 ∷ m .format1
     ∷ flag (r .cr) ∷ b .left .session .pad .line .len ∷ r .held .count
     ∷ phaseNumbers (r .phase)
@@ -271,15 +274,40 @@ reader phase held cr =
 abbrev pub starting : ℕ → ℕ → Bool → List ℕ → List ℕ → ℕ → ℕ → State
 starting m n suppressed chars attrs x y =
     let f : Frame =
-    record { width = m; height = n; cursor = place x y; det = true; x3 = false; suppressed = suppressed; received = allMaps } in
+    record {
+      width = m;
+      height = n;
+      edition = September;
+      cursor = place x y;
+      det = true;
+      x3 = false;
+      suppressed = suppressed;
+      received = allMaps;
+    } in
     state (session f (reader Rest [] false) freshPad) (screen chars attrs (replicate (length chars) 1))
 
 -- a state with another frame
 abbrev framed : Frame → State → State
 framed f s = state (session f (s .session .reader) (s .session .pad)) (s .screen)
 
--- a state with one thing else, and all other things as they were: the cursor, the modes, the maps received, the reader with the bytes
--- held, whether the last byte of data was a CR, option 30 on, the PAD, the characters, the attribute bytes, the marks
+-- a state with one thing else, and all other things as they were: June's edition, the cursor, the modes, the maps received, the reader
+-- with the bytes held, whether the last byte of data was a CR, option 30 on, the PAD, the characters, the attribute bytes, the marks
+abbrev pub inJune : State → State
+inJune s =
+    let f = s .session .frame in
+    framed
+    (record {
+      width = f .width;
+      height = f .height;
+      edition = June;
+      cursor = f .cursor;
+      det = f .det;
+      x3 = f .x3;
+      suppressed = f .suppressed;
+      received = f .received;
+    })
+    s
+
 abbrev pub at : ℕ → ℕ → State → State
 at x y s = framed (placed (s .session .frame) (place x y)) s
 

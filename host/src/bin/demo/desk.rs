@@ -1,7 +1,7 @@
 //! A terminal with a screen and a reply buffer of its own.
 
 use host::refusal::Refusal;
-use host::terminal::{self, reply_room, Session};
+use host::terminal::{self, reply_room, Session, SEPTEMBER};
 
 use crate::form::Run;
 
@@ -14,10 +14,11 @@ pub struct Desk {
 }
 
 impl Desk {
+    /// For a host that follows September's edition.
     pub fn open(width: usize, height: usize) -> Result<Desk, Refusal> {
         let cells = width * height;
         let (mut chars, mut attrs, mut marks) = (vec![0; cells], vec![0; cells], vec![0; cells]);
-        let session = terminal::open(width, height, &mut chars, &mut attrs, &mut marks);
+        let session = terminal::open(width, height, SEPTEMBER, &mut chars, &mut attrs, &mut marks);
         Ok(Desk {
             session: session.map_err(|(refusal, _)| refusal)?,
             chars,

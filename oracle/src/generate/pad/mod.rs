@@ -200,7 +200,7 @@ impl Generator {
         match self.rng.below(3) {
             0 => self.typing(),
             1 => self.pad_stream(),
-            _ => {}
+            _ => self.send(DONT_30.to_vec(), 8),
         }
         self.push(Line::Pad(self.fits_pad()));
     }

@@ -13,15 +13,16 @@ open-spec =
     (λ c κs. search needs) (λ c. search needs) (λ c κs. search needs) (λ c κs. search needs) (λ c. search needs) (λ c. search needs)
     (λ c. search needs)
     (λ c. let b = c .before .before .before in
-    open-refused _ _ _ (b .refuse-sizes .ensures) (not-taken (b .refuse-sizes .result) (c .before .before .match .keys2))
+    open-refused _ _ _ _ (b .refuse-open .ensures) (not-taken (b .refuse-open .result) (c .before .before .match .keys2))
     (c .before .fresh-session .ensures) (c .refused .ensures))
-    (λ c. let z = open-sizes _ _ _ (c .before .before .refuse-sizes .ensures) (c .enum-told .given .1) in omega arith)
-    (λ c. let z = open-sizes _ _ _ (c .before .before .refuse-sizes .ensures) (c .enum-told .given .1) in omega arith)
-    (λ c κs. search needs) (λ c κs. search needs) (λ c κs. search needs) (λ c κs. search needs) (λ c. search needs) (λ c. search needs)
-    (λ c. search needs)
+    (λ c. let z = open-sizes _ _ _ _ (c .before .before .refuse-open .ensures) (c .enum-told .given .1) in omega arith)
+    (λ c. let z = open-sizes _ _ _ _ (c .before .before .refuse-open .ensures) (c .enum-told .given .1) in omega arith)
+    (λ c κs. search needs) (λ c κs. search needs) (λ c κs. search needs) (λ c κs. search needs) (λ c κs. search needs) (λ c. search needs)
+    (λ c. search needs) (λ c. search needs)
     (λ c. let k = c .before .before in
     let f = k .before .before .before .before in
     let s = f .before .before .before .before in
     let b = s .before .before .before in
-    open-done _ _ _ (b .before .before .before .refuse-sizes .ensures) (b .before .enum-told .given .1) (b .fresh-session2 .ensures) (s .erase .ensures)
+    let g = b .before in
+    open-done _ _ _ _ (g .before .before .before .refuse-open .ensures) (g .before .enum-told .given .1) (rw (g .edition-of .ensures) at (b .fresh-session2 .ensures)) (s .erase .ensures)
     (f .fill .ensures) (k .fill2 .ensures)))

@@ -12,7 +12,7 @@ unfolding sizeTests
 refuse-spec =
     tie.close
     (tie.spec
-    (λ c. search needs) (λ c. search needs) (λ c κs. search needs) (λ c. search needs)
+    (λ c κs. search needs) (λ c. search needs)
     (λ c. let e = c .before .refuse-sizes .ensures in e ∙ sym (failed-first _ _ (rw (← e) (not-taken (c .before .refuse-sizes .result) (c .match .keys2)))))
     (λ c κs. search needs)
     (λ c. let b = c .before in

@@ -9,12 +9,12 @@ unfolding agreed
 is-agreed-spec =
     tie.close
     (tie.spec
-    (λ c. search needs)
+    (λ c κs. search needs) (λ c. search needs)
     (λ c. search needs) (λ c κs. search needs) (λ c. search needs) (λ c κs. search needs) (λ c. search needs) (λ c κs. search needs)
     (λ c. search needs) (λ c κs. search needs) (λ c. search needs) (λ c κs. search needs)
     (λ c. rw (c .enum-told .given .1))
-    (λ c. rw (c .before .before .governor .given .1) (c .in-both .ensures))
-    (λ c. rw (c .before .before .governor2 .given .1) (c .in-both2 .ensures))
-    (λ c. rw (c .before .before .governor3 .given .1) (c .in-both3 .ensures))
-    (λ c. rw (c .before .before .governor4 .given .1) (c .in-both4 .ensures))
-    (λ c. rw (c .before .before .governor5 .given .1) (c .in-both5 .ensures)))
+    (λ c. let a = c .before .before in rw (a .governor .given .1) (rw (a .before .before .own-maps .ensures) at (c .in-both .ensures)))
+    (λ c. let a = c .before .before in rw (a .governor2 .given .1) (rw (a .before .before .own-maps .ensures) at (c .in-both2 .ensures)))
+    (λ c. let a = c .before .before in rw (a .governor3 .given .1) (rw (a .before .before .own-maps .ensures) at (c .in-both3 .ensures)))
+    (λ c. let a = c .before .before in rw (a .governor4 .given .1) (rw (a .before .before .own-maps .ensures) at (c .in-both4 .ensures)))
+    (λ c. let a = c .before .before in rw (a .governor5 .given .1) (rw (a .before .before .own-maps .ensures) at (c .in-both5 .ensures))))

@@ -1,15 +1,14 @@
--- `meaning_of` answers what the list has at a place: one case for each name, one for the rest.
+-- `meaning_of` answers what the list says of a command: one case for each, one for the rest.
 use mathlib.Core.Path.{_∙_}
 use borrow.Author.Needs.{needs}
 use borrow.Author.Tests.{ne-eqb}
 use Rattle.rules.specs.Facility.{weight}
-use Rattle.rules.specs.Command.{rows}
-use Rattle.command.specs.inner.List.{meaningFrom}
+use Rattle.rules.specs.Command.{rows, rowIn, meaning}
 use Rattle.command.proofs.meaning.meaning_of.Statement.{statement}
 use Rattle.command.proofs.meaning.meaning_of.Tie as tie
 
 pub meaning-of-spec : {M : Type 1} → statement M
-unfolding weight rows meaningFrom
+unfolding weight rows rowIn meaning
 meaning-of-spec =
     tie.close
     (tie.spec

@@ -28,7 +28,7 @@ delete c = rw (c .before .enum-told4 .given .1) (c .char-shift .ensures)
 
 function : tie.Need-returns-6
 unfolding pressed
-function c = rw (c .before .before .key2 .given .1) (decides (c .saying .ensures) tt refl)
+function c = rw (c .before .before .before .key2 .given .1) (decides (c .saying .ensures) tt (rw (c .before .function-key .ensures)))
 
 meaningless : tie.Need-returns-7
 unfolding pressed
@@ -43,5 +43,5 @@ press-taken-spec =
     (λ c κs. (c .before .before .before .before .pre .0, rw (c .before .key .given .1) at (c .before .before .before .before .pre .1)))
     (λ c. search needs) (λ c κs. search needs) (λ c κs. search needs) (λ c. search needs) (λ c κs. search needs)
     (λ c κs. search needs) (λ c. search needs) (λ c κs. search needs) (λ c. search needs) (λ c κs. search needs)
-    (λ c. search needs) (λ c κs. search needs) (λ c. search needs) (λ c κs. search needs) typed back tab send delete function
+    (λ c. search needs) (λ c κs. search needs) (λ c κs. search needs) (λ c. search needs) (λ c κs. search needs) typed back tab send delete function
     meaningless)

@@ -8,6 +8,5 @@ pub err-spec : {M : Type 1} → statement M
 err-spec =
     tie.close
     (tie.spec
-    (λ c κs. search needs)
-    (λ c κs. search needs)
-    (λ c. c .saying .ensures ∙ rw (c .before .fault-number .ensures)))
+    (λ c κs. search needs) (λ c κs. search needs) (λ c κs. search needs)
+    (λ c. c .saying .ensures ∙ rw (c .before .fault-number .ensures, c .before .before .error .ensures)))

@@ -14,4 +14,4 @@ facilities-spec =
     (λ c attrs. let r = c .before .before .before in
     let said = c .before .own-map .ensures attrs in
     decides (c .saying .ensures) (said .1)
-    (rw (said .0, c .before .before .with-received .ensures, r .receive .ensures, r .before .second-parameter .ensures, r .before .before .first-parameter .ensures))))
+    (rw (c .before .before .with-received .ensures, said .0, r .receive .ensures, r .before .second-parameter .ensures, r .before .before .first-parameter .ensures))))

@@ -9,6 +9,8 @@ unfolding ownMap
 own-map-spec =
     tie.close
     (tie.spec
-    (λ c. search needs) (λ c. search needs) (λ c. search needs) (λ c. search needs)
-    (λ c attrs. (rw (c .enum-told .given .1), tt)) (λ c attrs. (rw (c .enum-told2 .given .1), tt))
-    (λ c attrs. (rw (c .enum-told3 .given .1), tt)) (λ c attrs. (rw (c .enum-told4 .given .1), tt)))
+    (λ c κs. search needs) (λ c. search needs) (λ c. search needs) (λ c. search needs) (λ c. search needs)
+    (λ c attrs. (rw (c .enum-told .given .1, c .before .before .own-maps .ensures), tt))
+    (λ c attrs. (rw (c .enum-told2 .given .1, c .before .before .own-maps .ensures), tt))
+    (λ c attrs. (rw (c .enum-told3 .given .1, c .before .before .own-maps .ensures), tt))
+    (λ c attrs. (rw (c .enum-told4 .given .1, c .before .before .own-maps .ensures), tt)))

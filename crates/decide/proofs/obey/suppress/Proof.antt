@@ -12,11 +12,15 @@ suppressed-already c = λ attrs. rw (c .quiet .ensures, c .before .before .match
 
 ended : tie.Need-returns-2
 unfolding suppressing
-ended c = λ attrs. rw (c .saying2 .ensures, c .before .switched2 .ensures, c .before .before .before .match .keys2) (record { meaning = rw (c .before .before .if2 .taken); sendable = tt })
+ended c = λ attrs.
+    rw (c .saying2 .ensures, c .before .switched2 .ensures, c .before .before .before .match .keys2, c .before .before .before .before .suppress-protection .ensures)
+    (record { meaning = rw (c .before .before .if2 .taken); sendable = tt })
 
 suppressed-now : tie.Need-returns-3
 unfolding suppressing
-suppressed-now c = λ attrs. rw (c .saying .ensures, c .before .switched .ensures, c .before .before .before .match .keys1) (record { meaning = rw (c .before .before .if1 .left); sendable = tt })
+suppressed-now c = λ attrs.
+    rw (c .saying .ensures, c .before .switched .ensures, c .before .before .before .match .keys1, c .before .before .before .before .suppress-protection .ensures)
+    (record { meaning = rw (c .before .before .if1 .left); sendable = tt })
 
 ended-already : tie.Need-returns-4
 unfolding suppressing
@@ -24,7 +28,7 @@ ended-already c = λ attrs. rw (c .quiet2 .ensures, c .before .before .match .ke
 
 question : tie.Need-returns-5
 unfolding suppressing
-question c = λ attrs. rw (c .saying3 .ensures, c .before .match .keys3) (record { meaning = refl; sendable = tt })
+question c = λ attrs. rw (c .saying3 .ensures, c .before .match .keys3, c .before .before .suppress-protection .ensures) (record { meaning = refl; sendable = tt })
 
 others : tie.Need-returns-6
 unfolding suppressing
@@ -34,6 +38,6 @@ pub suppress-spec : {M : Type 1} → statement M
 suppress-spec =
     tie.close
     (tie.spec
-    (λ c κs. search needs) suppressed-already (λ c κs. search needs) (λ c κs. search needs) (λ c κs. search needs)
+    (λ c κs. search needs) (λ c κs. search needs) suppressed-already (λ c κs. search needs) (λ c κs. search needs) (λ c κs. search needs)
     (λ c κs. search needs) ended (λ c κs. search needs) (λ c κs. search needs) (λ c κs. search needs) suppressed-now
     ended-already question others)

@@ -19,6 +19,6 @@ apply-spec =
     record {
       changes = record { frame = done .frame; characters = done .characters };
       attributes = f .format-attrs .ensures;
-      marks = k .mark .ensures ∙ rw (marking-of _ (w .before .before .before .before .before .before .before .before .before .args .decision .edit));
-      replies = said (w .before .before .before .before .before .before .before .before .before .pre) (w .say-any .ensures);
+      marks = k .mark .ensures ∙ rw (marking-of _ (w .before .before .before .before .before .before .before .before .before .before .args .decision .edit));
+      replies = said (w .before .before .before .before .before .before .before .before .before .before .pre) (w .say-any .ensures);
     }))

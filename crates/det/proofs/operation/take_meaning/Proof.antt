@@ -13,7 +13,7 @@ take-meaning-spec =
     (λ c. let m = c .before .before .before in
     let a = m .before .before .before .before in
     let w = a .before .before .before .before in
-    let d = w .before .before .before .before in
+    let d = w .before .before .before .before .before in
     let k = d .before in
     let start = k .before .before .before .before .before in
     rw (c .with-frame .ensures)

@@ -6,10 +6,13 @@ use Rattle.layout.proofs.read.frame_in.Tie as tie
 
 parts : tie.Need-returns
 unfolding frameIn
-parts c = rw (c .maps-in .ensures)
+parts c =
+    let e = c .before .before .before .before .before .before in
+    rw (e .edition-numbered .ensures, c .maps-in .ensures)
 
 pub frame-in-spec : {M : Type 1} → statement M
 frame-in-spec =
     tie.close
     (tie.spec
-    (search needs) (search needs) (search needs) (search needs) (search needs) (search needs) (search needs) (search needs) parts)
+    (search needs) (search needs) (search needs) (search needs) (search needs) (search needs) (search needs) (search needs) (search needs)
+    (search needs) parts)

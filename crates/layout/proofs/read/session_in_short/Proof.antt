@@ -8,7 +8,7 @@ short : tie.Need-returns
 short c =
     let k = c .before .before .before in
     let s = k .before .before .before in
-    c .session-in .ensures ∙ rw (k .copy .ensures ∙ all-read (s .args .bytes .now) 211 (s .pre)) (padded-same _)
+    c .session-in .ensures ∙ rw (k .copy .ensures ∙ all-read (s .args .bytes .now) 212 (s .pre)) (padded-same _)
 
 pub session-in-short-spec : {M : Type 1} → statement M
 session-in-short-spec = tie.close (tie.spec (λ c. search needs) (search needs) (search needs) (λ c. search needs) short)

@@ -16,10 +16,19 @@ suppressed c =
 
 cr : tie.Need-returns-4
 cr c =
-    let s = c .before in
+    let s = c .before .before in
     let x = s .before .before in
-    rw (le-leb _ 1 (x .before .before .if1 .left), le-leb _ 1 (x .if2 .left), le-leb _ 1 (s .if3 .left))
+    rw (le-leb _ 1 (x .before .before .if1 .left), le-leb _ 1 (x .if2 .left), le-leb _ 1 (s .if3 .left), lt-leb _ 1 (c .if4 .taken))
+
+edition : tie.Need-returns-5
+edition c =
+    let r = c .before in
+    let s = r .before .before in
+    let x = s .before .before in
+    rw (le-leb _ 1 (x .before .before .if1 .left), le-leb _ 1 (x .if2 .left), le-leb _ 1 (s .if3 .left), le-leb _ 1 (r .if4 .left))
 
 pub has-flags-spec : {M : Type 1} → statement M
 has-flags-spec =
-    tie.close (tie.spec (search needs) det (search needs) x3 (search needs) suppressed (search needs) cr)
+    tie.close
+    (tie.spec
+    (search needs) det (search needs) x3 (search needs) suppressed (search needs) cr (search needs) edition)

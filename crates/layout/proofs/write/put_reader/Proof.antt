@@ -11,7 +11,7 @@ room : tie.Need-copy-requires
 room c κs = simp length-set (omega (arith, long (c .before .before .before .before .before)))
 
 -- so does the slice after the copy
-still : (c : tie.After-copy) → length (c .copy .last .1 .0) ≡ 211
+still : (c : tie.After-copy) → length (c .copy .last .1 .0) ≡ 212
 still c = c .copy .kept .1 .0 ∙ simp length-set (c .before .before .before .before .before .before .pre)
 
 last : tie.Need-slice-write-bytes-4

@@ -8,6 +8,6 @@ pub put-field-spec : {M : Type 1} → statement M
 put-field-spec =
     tie.close
     (tie.spec
-    (search needs) (search needs) (search needs)
+    (λ c κs. c .before .before .before .pre) (search needs) (search needs)
     (λ c. let t = c .before .before in
     wrote-then (t .before .before .before .before .put-separator .ensures) (copied-piece (t .copy-text .ensures))))

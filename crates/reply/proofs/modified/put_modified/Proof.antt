@@ -12,8 +12,8 @@ pub put-modified-spec : {M : Type 1} → statement M
 put-modified-spec =
     tie.close
     (tie.spec
-    (λ chars attrs marks reply₀ at width next₀ cell₀ reply next cell. Modifying width chars attrs marks reply₀ at reply next cell)
-    (λ chars attrs marks reply₀ at width next₀ cell₀ reply next cell. length attrs - cell)
+    (λ chars attrs marks reply₀ at code width next₀ cell₀ reply next cell. Modifying code width chars attrs marks reply₀ at reply next cell)
+    (λ chars attrs marks reply₀ at code width next₀ cell₀ reply next cell. length attrs - cell)
     (search needs)
     (λ c. modifying-start (c .field-from .ensures))
     (search needs) (search needs) (search needs)

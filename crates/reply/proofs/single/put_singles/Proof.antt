@@ -10,14 +10,14 @@ pub put-singles-spec : {M : Type 1} → statement M
 put-singles-spec =
     tie.close
     (tie.spec
-    (λ chars reply₀ cell at next₀ i₀ reply next i. (i ≤ 32) × WritingSingles 32 reply₀ at chars cell reply next i)
-    (λ chars reply₀ cell at next₀ i₀ reply next i. 32 - i)
+    (λ chars reply₀ cell at code next₀ i₀ reply next i. (i ≤ 32) × WritingSingles code 32 reply₀ at chars cell reply next i)
+    (λ chars reply₀ cell at code next₀ i₀ reply next i. 32 - i)
     (λ c. (omega arith, ones-start))
     (search needs)
     (λ c κs. let l = c .before .before in
     let q = l .before .before .before .pre in
     let t = c .before .loop-test .taken in
-    (omega (arith, q .0, t), omega (arith, q .1, t, l .loop .inv .1 .next, ones-length (l .loop .inv .1))))
+    ((omega (arith, q .0 .0, t), omega (arith, q .0 .1, t, l .loop .inv .1 .next, ones-length (l .loop .inv .1))), q .1))
     (search needs) (search needs)
     (λ c. let t = c .before .before .before .before in
     (omega arith, ones-more (t .before .loop .inv .1) (t .loop-test .taken) (c .before .before .put-single .ensures)))

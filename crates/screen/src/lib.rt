@@ -7,5 +7,6 @@ pub mod class;
 pub mod field;
 pub mod next_open;
 pub mod number;
+pub mod record;
 pub mod scan;
 pub mod start;

@@ -1,0 +1,15 @@
+use mathlib.Core.Path.{sym, _∙_}
+use borrow.Author.Needs.{needs}
+use borrow.Author.Tests.{not-true, not-false}
+use Rattle.fields.proofs.scan.check.Statement.{statement}
+use Rattle.fields.proofs.scan.check.Tie as tie
+
+pub check-spec : {M : Type 1} → statement M
+check-spec =
+    tie.close
+    (tie.spec
+    (λ c κs. search needs)
+    (λ c κs. search needs)
+    (λ c. rw (sym (c .before .before .field-end .ensures), sym (c .before .says .ensures) ∙ not-true _ (c .if1 .taken)))
+    (λ c. search needs)
+    (λ c. rw (sym (c .before .before .before .field-end .ensures), sym (c .before .before .says .ensures) ∙ not-false _ (c .before .if1 .left))))

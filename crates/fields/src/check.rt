@@ -1,0 +1,47 @@
+// Does a list agree with the attributes?
+ghost use mathlib.Core.Path.{_≡_};
+ghost use mathlib.Core.Bool.{_&&_};
+ghost use lib.ListN.{drop, length};
+ghost use lib.Dec.{eqb, leb};
+ghost use Rattle.screen.specs.FieldList.{agrees};
+ghost use Rattle.fields.specs.inner.Records.{isUnused, allUnused};
+use crate::scan::scan_list;
+use screen::record::FieldRecord;
+
+// 0 as long as all records were zeros.
+fn gather(any: u32, said: FieldRecord) -> u32
+    ensures { λ r. ⌜ eqb r 0 ≡ (eqb any 0 && isUnused said) ⌝ }
+{
+    any | said.start | said.length
+}
+
+// Are all records from `from` on zeros? The loop has one way out, so that the compiler reads several at once.
+fn rest_unused(list: &[FieldRecord], from: usize) -> bool
+    ensures { λ r. ⌜ r ≡ allUnused (drop from (now (list .entry))) ⌝ }
+{
+    let mut any = 0;
+    let mut k = from;
+    while k < list.len() {
+        let said = list[k];
+        any = gather(any, said);
+        k += 1;
+    }
+    any == 0
+}
+
+fn all_read(cell: usize, cells: usize, rest: bool) -> bool
+    ensures { λ r. ⌜ r ≡ (leb cells cell && rest) ⌝ }
+{
+    if cells <= cell {
+        return rest;
+    }
+    false
+}
+
+pub fn agrees(list: &[FieldRecord], attrs: &[u8]) -> bool
+    ensures { λ r. ⌜ r ≡ agrees (now (list .entry)) (now (attrs .entry)) ⌝ }
+{
+    let scan = scan_list(list, attrs, false, 0);
+    let rest = rest_unused(list, scan.count);
+    all_read(scan.cell, attrs.len(), rest)
+}

@@ -1,0 +1,78 @@
+// A field and its record.
+ghost use mathlib.Core.Path.{_≡_};
+ghost use Prim.Native.Nat.{_≤_};
+ghost use lib.ListN.{length};
+ghost use Rattle.screen.specs.FieldList.{recordOf, sameRecord, hasCell};
+ghost use Rattle.fields.specs.inner.Records.{nextField};
+use screen::field::field_end;
+use screen::record::FieldRecord;
+
+// The field that starts at a cell, and the cell after it.
+pub struct Next {
+    pub field: FieldRecord,
+    pub end: usize,
+}
+
+pub(crate) fn wide(n: u32) -> usize
+    ensures { λ r. ⌜ r ≡ n ⌝ }
+{
+    n as usize
+}
+
+fn is_record(said: FieldRecord, start: usize, length: usize) -> bool
+    ensures { λ r. ⌜ r ≡ sameRecord said (record { start = start; length = length }) ⌝ }
+{
+    if wide(said.start) == start {
+        return wide(said.length) == length;
+    }
+    false
+}
+
+// Does the record say the cells from `start` up to `end`, or zeros where there are none?
+pub(crate) fn says(said: FieldRecord, start: usize, end: usize) -> bool
+    ensures { λ r. ⌜ r ≡ sameRecord said (recordOf start end) ⌝ }
+{
+    if start < end {
+        return is_record(said, start, end - start);
+    }
+    is_record(said, 0, 0)
+}
+
+pub(crate) fn has_cell(field: FieldRecord, cell: usize) -> bool
+    ensures { λ r. ⌜ r ≡ hasCell field cell ⌝ }
+{
+    let start = wide(field.start);
+    if cell < start {
+        return false;
+    }
+    cell - start < wide(field.length)
+}
+
+// The record of the cells from `start` up to `end`, and zeros where there are none.
+fn record_of(start: usize, end: usize) -> FieldRecord
+    requires { ⌜ end ≤ 8448 ⌝ }
+    ensures { λ r. ⌜ r ≡ recordOf start end ⌝ }
+{
+    if start < end {
+        return FieldRecord {
+            start: start as u32,
+            length: (end - start) as u32,
+        };
+    }
+    FieldRecord {
+        start: 0,
+        length: 0,
+    }
+}
+
+pub(crate) fn next_field(attrs: &[u8], cell: usize) -> Next
+    requires { ⌜ length (now attrs) ≤ 8448 ⌝ }
+    ensures { λ r. ⌜ r ≡ nextField (now (attrs .entry)) cell ⌝ }
+{
+    let end = field_end(attrs, cell);
+    let field = record_of(cell, end);
+    Next {
+        field: field,
+        end: end,
+    }
+}

@@ -1,23 +1,22 @@
 -- Laws of unused records, and of the list written anew.
-use mathlib.Core.Path.{_≡_, refl, sym, ap, _∙_}
-use mathlib.Core.Bool.{Bool, true, false, not, _&&_}
-use mathlib.Core.List.{List, [], _∷_, _++_, append-assoc, append-nil}
-use Prim.Native.Nat.{ℕ, zero, suc, _+_, _-_, _≤_, _<_, min}
+use mathlib.Core.Path.{_≡_, refl, _∙_}
+use mathlib.Core.Bool.{Bool, true, false, _&&_}
+use mathlib.Core.List.{List, _++_, append-assoc, append-nil}
+use Prim.Native.Nat.{ℕ, suc, _+_, _-_, _≤_, _<_, min}
 use native.Mathlib.Omega.{arith}
 use native.Mathlib.Numerals.{add-one}
-use borrow.Author.Tests.{lt-ltb, le-ltb, ne-eqb, eqb-true, eqb-false, ltb-false}
+use borrow.Author.Tests.{lt-ltb, le-ltb, ne-eqb, eqb-true, eqb-false}
 use lib.Bits.{bitOr, or-zero-l, or-add-and, and-le-r}
 use lib.Dec.{eqb, ltb}
 use lib.ListN.{length, getD, set, take, drop, drop-of-length-le, length-set, take-append-drop}
 use lib.Seq.{drop-cons, take-all, take-suc-set, drop-set-lt}
-use Rattle.words.specs.Words.{if_then_else_}
 use Rattle.words.proofs.Laws.{true-or-false, less-or-not, and-true}
 use Rattle.screen.specs.Fields.{fieldEnd}
 use Rattle.screen.specs.FieldList.{unused, recordOf, fieldsFrom, fieldsOf, agrees}
 use Rattle.screen.specs.declared.record.FieldRecord.{FieldRecord}
 use Rattle.screen.proofs.FieldListLaws.{agrees-own, fieldsFrom-length}
 use Rattle.fields.specs.Rebuilt.{recordsWritten, rebuilt}
-use Rattle.fields.specs.inner.Records.{isUnused, allUnused}
+use Rattle.fields.specs.inner.Records.{joined, isUnused, allUnused}
 
 -- ---- unused records
 
@@ -32,15 +31,23 @@ and-assoc : (a b c : Bool) → (a && b) && c ≡ (a && (b && c))
 and-assoc true b c = refl
 and-assoc false b c = refl
 
-pub or-unused : (any : ℕ) (said : FieldRecord) → eqb (bitOr (bitOr any (said .start)) (said .length)) 0 ≡ (eqb any 0 && isUnused said)
-or-unused any said =
-    or-none (bitOr any (said .start)) (said .length) ∙ rw (or-none any (said .start)) (and-assoc (eqb any 0) (eqb (said .start) 0) (eqb (said .length) 0))
+joined-none : (said : FieldRecord) → eqb (joined said) 0 ≡ isUnused said
+joined-none said =
+    true-or-false (eqb (said .start) 0)
+    (λ p. true-or-false (eqb (said .length) 0)
+    (λ q. rw (p, q, eqb-true (said .start) 0 p, eqb-true (said .length) 0 q))
+    (λ q. rw (p, q) (ne-eqb (joined said) 0 (λ z. eqb-false (said .length) 0 q (omega (arith, z))))))
+    (λ p. rw p (ne-eqb (joined said) 0 (λ z. eqb-false (said .start) 0 p (omega (arith, z)))))
+
+pub or-unused : (any : ℕ) (said : FieldRecord) → eqb (bitOr any (joined said)) 0 ≡ (eqb any 0 && isUnused said)
+or-unused any said = or-none any (joined said) ∙ rw (joined-none said)
 
 -- the record at k is looked at, and those behind it are left; and none is left
 pub unused-next : (xs : List FieldRecord) (k : ℕ) (any more : Bool) → k < length xs → more ≡ (any && isUnused (getD xs k unused))
     → (more && allUnused (drop (k + 1) xs)) ≡ (any && allUnused (drop k xs))
 unfolding allUnused
-unused-next xs k any more h e = rw (e, drop-cons xs k unused h, add-one k) (and-assoc any (isUnused (getD xs k unused)) (allUnused (drop (suc k) xs)))
+unused-next xs k any more h e =
+    rw (e, drop-cons xs k unused h, add-one k) (and-assoc any (isUnused (getD xs k unused)) (allUnused (drop (suc k) xs)))
 
 pub unused-end : (xs : List FieldRecord) (k : ℕ) (any : Bool) → length xs ≤ k → (any && allUnused (drop k xs)) ≡ any
 unfolding allUnused
@@ -76,7 +83,8 @@ module _ (attrs : List ℕ) where
       none l = omega arith
 
   -- what is to be at first is what is promised
-  pub toBe-first : (list : List FieldRecord) (count : ℕ) → toBe list 0 (min (recordsWritten count (length attrs)) (length list)) 0 ≡ rebuilt count attrs list
+  pub toBe-first : (list : List FieldRecord) (count : ℕ)
+      → toBe list 0 (min (recordsWritten count (length attrs)) (length list)) 0 ≡ rebuilt count attrs list
   toBe-first list count = go (recordsWritten count (length attrs))
     where
       go : (n : ℕ) → toBe list 0 (min n (length list)) 0 ≡ take n (fieldsOf (length list) attrs) ++ drop n list
@@ -95,7 +103,8 @@ module _ (attrs : List ℕ) where
           ))
 
   -- enough records were asked for, or none
-  pub rebuilt-all : (list : List FieldRecord) (count : ℕ) → length attrs ≤ 8448 → length list ≤ count → rebuilt count attrs list ≡ fieldsOf (length list) attrs
+  pub rebuilt-all : (list : List FieldRecord) (count : ℕ) → length attrs ≤ 8448 → length list ≤ count
+      → rebuilt count attrs list ≡ fieldsOf (length list) attrs
   rebuilt-all list count small h =
       rw (
         le-ltb 8448 (length attrs) small,

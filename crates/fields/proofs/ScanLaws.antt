@@ -1,8 +1,8 @@
 -- Laws of the scan of a list: turn by turn, and what it comes to.
-use mathlib.Core.Path.{_≡_, refl, sym, ap, _∙_}
+use mathlib.Core.Path.{_≡_, refl, sym, _∙_}
 use mathlib.Core.Bool.{Bool, true, false, not, _&&_}
 use mathlib.Core.List.{List, [], _∷_}
-use Prim.Native.Nat.{ℕ, zero, suc, _+_, _-_, _≤_, _<_}
+use Prim.Native.Nat.{ℕ, suc, _+_, _-_, _≤_, _<_}
 use native.Mathlib.Omega.{arith}
 use native.Mathlib.Numerals.{add-one}
 use borrow.Author.Tests.{lt-ltb, le-ltb, le-leb, lt-leb, eqb-true}
@@ -10,10 +10,10 @@ use lib.Dec.{T, eqb, leb, ltb}
 use lib.ListN.{length, getD, drop, drop-of-length-le}
 use lib.Seq.{drop-cons, drop-nil}
 use Rattle.words.specs.Words.{if_then_else_}
-use Rattle.words.proofs.Laws.{true-or-false, less-or-not, and-true, not-both}
+use Rattle.words.proofs.Laws.{true-or-false, less-or-not}
 use Rattle.screen.specs.Attributes.{protectedAt}
 use Rattle.screen.specs.Fields.{fieldEnd}
-use Rattle.screen.specs.FieldList.{unused, recordOf, sameRecord, agreesFrom, agrees, hasCell, counted, foundFrom, foundByList}
+use Rattle.screen.specs.FieldList.{unused, sameRecord, agreesFrom, agrees, hasCell, counted, foundFrom, foundByList}
 use Rattle.screen.specs.declared.record.FieldRecord.{FieldRecord}
 use Rattle.screen.proofs.FieldLaws.{end-le}
 use Rattle.screen.proofs.FieldListLaws.{past-end}
@@ -69,7 +69,11 @@ module _ (attrs : List ℕ) where
   unfolding agreesFrom allUnused
   agrees-end [] at h = rw (le-ltb at (length attrs) h)
   agrees-end (x ∷ xs) at h =
-      rw (le-ltb at (fieldEnd attrs at) (omega (arith, end-le attrs at)), unused-same x, agrees-end xs (fieldEnd attrs at) (omega (arith, past-end attrs at h)))
+      rw (
+        le-ltb at (fieldEnd attrs at) (omega (arith, end-le attrs at)),
+        unused-same x,
+        agrees-end xs (fieldEnd attrs at) (omega (arith, past-end attrs at h)),
+      )
       (true-or-false (isUnused x) (λ e. rw e) (λ e. rw e))
 
   -- what a scan has come to: all fields were read, and the records behind them are zeros
@@ -120,7 +124,8 @@ module _ (attrs : List ℕ) where
           omega arith,
           rw (m, b)
               (less-or-not (s .cell) (length attrs) (λ h. rw (lt-leb (length attrs) (s .cell) h))
-              (λ h. let z : isUnused x ≡ false = sym (unused-same x) ∙ (rw (le-ltb (s .cell) after (omega (arith, end-le attrs (s .cell)))) at b) in
+              (λ h. let o : after ≤ s .cell = omega (arith, end-le attrs (s .cell)) in
+              let z : isUnused x ≡ false = sym (unused-same x) ∙ (rw (le-ltb (s .cell) after o) at b) in
               rw (le-leb (length attrs) (s .cell) h, z))),
         )
 
@@ -139,8 +144,11 @@ module _ (attrs : List ℕ) where
   check-from (x ∷ xs) s e f =
       true-or-false (isNext s x attrs)
       (λ b. less-or-not (after x xs s) (length attrs)
-      (λ h. rw (read x xs s e f, checked-right x xs s b) (right-more x xs s b (scanned (right x xs s) xs attrs) (check-from xs (right x xs s) refl (lt-leb (length attrs) (after x xs s) h))))
-      (λ h. rw (read x xs s e f, checked-right x xs s b, stopped (right x xs s) xs (le-leb (length attrs) (after x xs s) h)) (right-last x xs s b h)))
+      (λ h. let go : right x xs s .stop ≡ false = lt-leb (length attrs) (after x xs s) h in
+      rw (read x xs s e f, checked-right x xs s b)
+      (right-more x xs s b (scanned (right x xs s) xs attrs) (check-from xs (right x xs s) refl go)))
+      (λ h. let end : right x xs s .stop ≡ true = le-leb (length attrs) (after x xs s) h in
+      rw (read x xs s e f, checked-right x xs s b, stopped (right x xs s) xs end) (right-last x xs s b h)))
       (λ b. rw (read x xs s e f, checked-wrong x xs s b, stopped (wrong x xs s) xs refl) (wrong-here x xs s b))
 
   -- the list agrees where a scan against the attributes came to the last cell, and zeros stand behind what it read

@@ -4,18 +4,29 @@ ghost use mathlib.Core.Bool.{_&&_};
 ghost use lib.ListN.{drop, length};
 ghost use lib.Dec.{eqb, leb};
 ghost use Rattle.screen.specs.FieldList.{agrees};
-ghost use Rattle.fields.specs.inner.Records.{isUnused, allUnused};
+ghost use Rattle.fields.specs.inner.Records.{joined, isUnused, allUnused};
+use crate::field::wide;
 use crate::scan::scan_list;
 use screen::record::FieldRecord;
 
-// 0 as long as all records were zeros.
-fn gather(any: u32, said: FieldRecord) -> u32
-    ensures { λ r. ⌜ eqb r 0 ≡ (eqb any 0 && isUnused said) ⌝ }
+// Both numbers of a record in one, as they lie side by side in memory: the compiler then reads them at once.
+fn joined(said: FieldRecord) -> usize
+    ensures { λ r. ⌜ r ≡ joined said ⌝ }
 {
-    any | said.start | said.length
+    let start = wide(said.start);
+    let length = wide(said.length);
+    length * 4294967296 + start
 }
 
-// Are all records from `from` on zeros? The loop has one way out, so that the compiler reads several at once.
+// 0 as long as all records were zeros.
+fn gather(any: usize, said: FieldRecord) -> usize
+    ensures { λ r. ⌜ eqb r 0 ≡ (eqb any 0 && isUnused said) ⌝ }
+{
+    let more = joined(said);
+    any | more
+}
+
+// Are all records from `from` on zeros? The loop has one way out, so that the compiler looks at several records at once.
 fn rest_unused(list: &[FieldRecord], from: usize) -> bool
     ensures { λ r. ⌜ r ≡ allUnused (drop from (now (list .entry))) ⌝ }
 {

@@ -1,6 +1,6 @@
 // A field and its record.
 ghost use mathlib.Core.Path.{_≡_};
-ghost use Prim.Native.Nat.{_≤_};
+ghost use Prim.Native.Nat.{_<_, _≤_};
 ghost use lib.ListN.{length};
 ghost use Rattle.screen.specs.FieldList.{recordOf, sameRecord, hasCell};
 ghost use Rattle.fields.specs.inner.Records.{nextField};
@@ -14,7 +14,7 @@ pub struct Next {
 }
 
 pub(crate) fn wide(n: u32) -> usize
-    ensures { λ r. ⌜ r ≡ n ⌝ }
+    ensures { λ r. ⌜ (r ≡ n) × (r < 4294967296) ⌝ }
 {
     n as usize
 }

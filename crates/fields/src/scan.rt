@@ -2,8 +2,7 @@
 ghost use mathlib.Core.Path.{_≡_};
 ghost use mathlib.Core.Bool.{_&&_, not};
 ghost use Prim.Native.Nat.{_+_, _^_, _<_};
-ghost use Rattle.words.specs.Words.{if_then_else_};
-ghost use Rattle.screen.specs.FieldList.{counted, hasCell};
+ghost use Rattle.screen.specs.FieldList.{counted};
 ghost use Rattle.fields.specs.inner.Scans.{begun, checked, endsAt, sought, stepped, scanned};
 use crate::field::has_cell;
 use crate::field::says;

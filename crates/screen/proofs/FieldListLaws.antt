@@ -1,22 +1,21 @@
 -- Laws of the list of field records, and of the question that it answers.
 use mathlib.Core.Path.{_≡_, refl, sym, ap, _∙_}
-use mathlib.Core.Bool.{Bool, true, false, not}
+use mathlib.Core.Bool.{true, false, not}
 use mathlib.Core.List.{List, [], _∷_}
 use Prim.Native.Nat.{ℕ, zero, suc, _+_, _-_, _≤_, _<_, min}
 use native.Mathlib.Omega.{arith}
 use native.Mathlib.Numerals.{add-one}
 use borrow.Author.Tests.{lt-ltb, le-ltb, eq-eqb, ne-eqb, eqb-true}
-use lib.Dec.{eqb, ltb}
+use lib.Dec.{eqb}
 use lib.ListN.{length, List·getD-eq-default}
-use Rattle.words.specs.Words.{if_then_else_}
 use Rattle.words.proofs.Laws.{true-or-false, less-or-not, not-both}
 use Rattle.screen.specs.Attributes.{protectedAt}
-use Rattle.screen.specs.Fields.{Field, startsAt, opensAt, fieldStart, fieldEnd}
-use Rattle.screen.specs.FieldList.{unused, recordOf, fieldsFrom, fieldsOf, sameRecord, agreesFrom, agrees}
-use Rattle.screen.specs.FieldList.{opensBefore, foundByReading, hasCell, counted, foundFrom, foundByList}
+use Rattle.screen.specs.Fields.{startsAt, opensAt, fieldStart, fieldEnd}
+use Rattle.screen.specs.FieldList.{recordOf, fieldsFrom, fieldsOf, sameRecord, agreesFrom, agrees}
+use Rattle.screen.specs.FieldList.{opensBefore, foundByReading, counted, foundFrom, foundByList}
 use Rattle.screen.specs.declared.record.FieldRecord.{FieldRecord}
 use Rattle.screen.proofs.WordLaws.{last-hit, first-end}
-use Rattle.screen.proofs.FieldLaws.{protected-as, open-within, end-gt, end-le, end-starts, none-opens, rest-equal, field-is, field-only}
+use Rattle.screen.proofs.FieldLaws.{protected-as, end-gt, end-le, end-starts, none-opens, rest-equal, field-is, field-only}
 
 -- ---- agreement
 
@@ -48,8 +47,9 @@ module _ (attrs : List ℕ) where
   unfolding agreesFrom fieldsFrom
   own-from zero at room = rw (le-ltb at (length attrs) (omega arith))
   own-from (suc n) at room =
-      rw (sameRecord-self (recordOf at (fieldEnd attrs at)))
-      (own-from n (fieldEnd attrs at) (less-or-not at (length attrs) (λ h. omega (arith, end-gt attrs at h)) (λ h. omega (arith, past-end at h))))
+      let left : length attrs ≤ fieldEnd attrs at + n =
+      less-or-not at (length attrs) (λ h. omega (arith, end-gt attrs at h)) (λ h. omega (arith, past-end at h)) in
+      rw (sameRecord-self (recordOf at (fieldEnd attrs at))) (own-from n (fieldEnd attrs at) left)
 
   only-from : (list : List FieldRecord) (at : ℕ) → agreesFrom list attrs at ≡ true → list ≡ fieldsFrom (length list) attrs at
   unfolding fieldsFrom

@@ -1,15 +1,15 @@
 -- The list of all fields, once each and in reading order, agrees, and no other list does.
-use mathlib.Core.Path.{_≡_, refl, sym, ap, _∙_}
-use mathlib.Core.Bool.{Bool, true, false}
+use mathlib.Core.Path.{_≡_, refl, ap, _∙_}
+use mathlib.Core.Bool.{true, false}
 use mathlib.Core.List.{List, [], _∷_}
 use Prim.Native.Nat.{ℕ, zero, suc, _+_, _-_, _≤_, _<_}
 use native.Mathlib.Omega.{arith}
-use borrow.Author.Tests.{lt-ltb, le-ltb, eq-eqb, ne-eqb, eqb-true, eqb-false}
+use borrow.Author.Tests.{lt-ltb, le-ltb, eq-eqb, ne-eqb}
 use lib.Dec.{eqb}
 use lib.ListN.{length}
 use Rattle.words.specs.Words.{if_then_else_}
 use Rattle.words.proofs.Laws.{less-or-not, not-both}
-use Rattle.screen.specs.Fields.{Field, startsAt, fieldStart, fieldEnd}
+use Rattle.screen.specs.Fields.{Field, startsAt, fieldEnd}
 use Rattle.screen.specs.FieldList.{FieldList, unused, recordAt, recordOf, agreesFrom, agrees}
 use Rattle.screen.specs.declared.record.FieldRecord.{FieldRecord}
 use Rattle.screen.proofs.FieldLaws.{end-gt, end-le, end-starts, field-is, field-only}
@@ -49,7 +49,8 @@ module _ (attrs : List ℕ) where
   none-left : (list : List FieldRecord) (at k : ℕ) → length attrs ≤ at → agreesFrom list attrs at ≡ true → recordAt list k ≡ unused
   none-left [] at k h e = refl
   none-left (x ∷ xs) at zero h e = agrees-here attrs x xs at e .0 ∙ rw (le-ltb at (fieldEnd attrs at) (omega (arith, end-le attrs at)))
-  none-left (x ∷ xs) at (suc k) h e = none-left xs (fieldEnd attrs at) k (omega (arith, past-end attrs at h)) (agrees-here attrs x xs at e .1)
+  none-left (x ∷ xs) at (suc k) h e =
+      none-left xs (fieldEnd attrs at) k (omega (arith, past-end attrs at h)) (agrees-here attrs x xs at e .1)
 
   -- ---- a list that agrees is such a list
   from-end : (list : List FieldRecord) (at : ℕ) → length attrs ≤ at → agreesFrom list attrs at ≡ true → From at list
@@ -115,7 +116,8 @@ module _ (attrs : List ℕ) where
 
   from-is : (list : List FieldRecord) (at : ℕ) → Start at → agreesFrom list attrs at ≡ true → From at list
   unfolding agreesFrom
-  from-is [] at s e = less-or-not at (length attrs) (λ h. not-both false (rw (lt-ltb at (length attrs) h) at e) refl) (λ h. from-end [] at h e)
+  from-is [] at s e =
+      less-or-not at (length attrs) (λ h. not-both false (rw (lt-ltb at (length attrs) h) at e) refl) (λ h. from-end [] at h e)
   from-is (x ∷ xs) at s e =
       let p = agrees-here attrs x xs at e in
       less-or-not at (length attrs)
@@ -160,7 +162,7 @@ module _ (attrs : List ℕ) where
       room = omega (arith, F .room);
       each = λ k l. F .each (suc k) (omega arith);
       after = λ k l. later at _ _ h st (rw is-at at (F .order 0 (suc k) (omega arith) (omega arith))) (F .each (suc k) (omega arith));
-      every = λ s e lo f. let p = F .every s e (omega (arith, end-gt attrs at h)) f in go s e (omega (arith, end-gt attrs at h)) (F .place s) (p .0) (p .1);
+      every = λ s e lo f. let l : at < s = omega (arith, end-gt attrs at h) in let p = F .every s e (omega arith) f in go s e l (F .place s) (p .0) (p .1);
       order = λ j k l u. F .order (suc j) (suc k) (omega arith) (omega arith);
       zeros = λ k l. F .zeros (suc k) (omega arith);
     }
@@ -201,7 +203,7 @@ module _ (attrs : List ℕ) where
       (λ h. rw (le-ltb at (length attrs) h))
   from-only (x ∷ xs) at s F =
       less-or-not at (length attrs)
-      (λ h. rw (first-place at x xs F h (s h), lt-ltb at (fieldEnd attrs at) (end-gt attrs at h), sameRecord-self (record { start = at; length = fieldEnd attrs at - at }))
+      (λ h. rw (first-place at x xs F h (s h), lt-ltb at (fieldEnd attrs at) (end-gt attrs at h), sameRecord-self (record { start = at; length = _ }))
       (from-only xs (fieldEnd attrs at) (end-starts attrs at) (rest at x xs F h (s h))))
       (λ h. let z : x ≡ unused = F .zeros 0 (omega (arith, none-used at x xs F h)) in
       rw (z, le-ltb at (fieldEnd attrs at) (omega (arith, end-le attrs at)))

@@ -52,7 +52,8 @@ sameRecord a b = if eqb (a .start) (b .start) then eqb (a .length) (b .length) e
 -- are the records the fields from the cell on, with no field left out?
 unfoldable pub agreesFrom : List FieldRecord → List ℕ → ℕ → Bool
 agreesFrom [] attrs cell = not (ltb cell (length attrs))
-agreesFrom (x ∷ xs) attrs cell = if sameRecord x (recordOf cell (fieldEnd attrs cell)) then agreesFrom xs attrs (fieldEnd attrs cell) else false
+agreesFrom (x ∷ xs) attrs cell =
+    let end = fieldEnd attrs cell in if sameRecord x (recordOf cell end) then agreesFrom xs attrs end else false
 
 -- Refusal 13: fewer records than cells. Refusal 14: not the list of the fields, where an unused record is not zeros too.
 abbrev pub tooShort : List FieldRecord → ℕ → Bool

@@ -1,5 +1,5 @@
 -- `agrees` meets its contract: a walk of its MIR, by hand. It passes the list on to `scan_list` and to `rest_unused`, and what comes of them to `all_read`.
-use Rattle.fields.proofs.Walk.{_≡_, refl, _∙_, ℕ, _<_, _^_, Bool, false, List, [], _∷_, length, lit<, URA, named, w64, vbool, vint, SProp, emp, id⊢, Lft, Share, flft, ftrue, Memory, Routine, Heap, Calls}
+use Rattle.fields.proofs.Walk.{_≡_, refl, _∙_, ℕ, _<_, _^_, false, List, [], _∷_, length, lit<, URA, named, w64, vbool, vint, SProp, emp, id⊢, Lft, Share, flft, ftrue, Memory, Routine, Heap, Calls}
 use Rattle.fields.proofs.Walk.{Loops, Atoms, FmC, fmOf, Fun, givenOf, tables, tablesOf, Given, ‵, raw, _⊛_, _$_, _∵_, !, qed, move, keep, use0, use1, use2, split, fsplit, fjoin, frame, done}
 use Rattle.fields.proofs.Walk.{suffices, look, init, stop, from, lit, false-lit, of-opd, and-then, no-more, land, returns, enter, alloc1, alloc0, params1, pass1, pass0, free0, RattleType, owns, Is}
 use Rattle.fields.proofs.Walk.{uint-makes, bool-tells, bool-makes, u8, usize, bool, RefT, slice-vals, ShrSlice, Room, shr-slice-tells, shr-slice-copy, owned, nothing, yes, alive, tripleOf}

@@ -1,17 +1,15 @@
 -- `rest_unused` meets its contract: a walk of its MIR, by hand. The borrow of the list is opened once, before the loop, and shut after it; a turn copies a record out and hands it to `gather`.
-use Rattle.fields.proofs.Walk.{_≡_, refl, sym, _∙_, ℕ, _+_, _-_, _*_, _<_, _≤_, _^_, arith, Bool, Option, none, some, List, [], _∷_, InvImage·wf, Nat·lt-wfRel, length, getD, drop-list, ltb→lt}
+use Rattle.fields.proofs.Walk.{_≡_, refl, sym, _∙_, ℕ, _+_, _-_, _*_, _<_, _^_, arith, Bool, none, some, List, [], _∷_, InvImage·wf, Nat·lt-wfRel, length, getD, drop-list, ltb→lt}
 use Rattle.fields.proofs.Walk.{nltb→le, lit<, URA, fullShare, named, w64, tyPtr, Val, vbool, vint, vptr, SProp, emp, id⊢, Lft, Share, flft, fat, fobor, Memory, Routine, Heap, Env, Wp, Tables}
 use Rattle.fields.proofs.Walk.{afterSeq, afterBlock, afterTurn, atReturn, Atoms, fmOf, Fun, givenOf, tables, tablesOf, Given, Item, ‵, raw, _⊛_, runs, anyQ, atRet, Sq, _$_, _∵_, !, qed, move}
 use Rattle.fields.proofs.Walk.{keep, drop, use0, use1, use2, split, fsplit, fjoin, frame, done, rewrite, suffices, look, init, store, stop, hop, from, load, lit, of-opd, bin, and-then, no-more}
 use Rattle.fields.proofs.Walk.{assigns-last, first, blocks, land, returns, exec, enter, alloc1, alloc0, params1, pass1, pass0, free0, forget, Below, again, loops, whole, sub, RattleType, owns}
-use Rattle.fields.proofs.Walk.{Is, shows, cellAt, uint-vals, uint-tells, uint-makes, bool-vals, bool-tells, bool-makes, usize, bool, RefT, sliceVal, slice-vals, ShrSlice, Room}
+use Rattle.fields.proofs.Walk.{Is, shows, cellAt, uint-vals, uint-tells, uint-makes, bool-makes, usize, bool, RefT, sliceVal, slice-vals, ShrSlice, Room}
 use Rattle.fields.proofs.Walk.{shr-slice-tells, place, place-is, row, elem-out, elem-back, looks-slice, shuts-slice, owned, nothing, yes, alive, tripleOf, Triple, entered}
 use Rattle.fields.proofs.Walk.{cited, says, Stays, stay-dropped, walkOf, ends-at, Walked, proves, locals-at, holding, frees, frees-room, empties, tests, calls-on, var, var-in, sets}
 use Rattle.fields.proofs.Walk.{resets}
 use mathlib.Core.Bool.{_&&_}
-use package.mir.Syntax.{w32}
 use types.Share.{arr-parts}
-use denote.Builtin.{u32}
 use denote.Memory.{shares}
 use denote.Struct.Laws as LL
 use lib.Dec.{eqb}
@@ -42,7 +40,7 @@ record Turn (xs : List FieldRecord) (end : Bool) : Type 0 where
   k : ℕ
   any : ℕ
   k-fits : k < 2 ^ 64
-  any-fits : any < 2 ^ 32
+  any-fits : any < 2 ^ 64
   leads : (eqb any 0 && allUnused (drop-list k xs)) ≡ end
 
 module _ {M : Type 1} (𝓤 : URA M) (H : Heap 𝓤) (A : Atoms 𝓤) (W : Given 𝓤 H A) (mem : Memory → SProp 𝓤) (run : Routine → Fun 𝓤) (κ₀ : Lft) (q₀ : Share) (x : RefT (List FieldRecord)) (start : ℕ)
@@ -67,7 +65,7 @@ module _ {M : Type 1} (𝓤 : URA M) (H : Heap 𝓤) (A : Atoms 𝓤) (W : Given
     abbrev At : X → List (Item 𝓤)
     At i =
         ‵ (row R q′ (x .now) (x .ptr .0) (x .ptr .1)) ∷ ‵ (fobor κ₀ q₀ (arr-parts (shares R) (length (x .now)) .part q′ (x .now) (x .ptr .0) (x .ptr .1)))
-        ∷ holding En (none ∷ some (sliceVal (x .ptr) (length (x .now))) ∷ some (vint w64 start) ∷ some (vint w32 (i .any)) ∷ some (vint w64 (i .k)) ∷ none ∷ none ∷ none ∷ none ∷ none ∷ []) []
+        ∷ holding En (none ∷ some (sliceVal (x .ptr) (length (x .now))) ∷ some (vint w64 start) ∷ some (vint w64 (i .any)) ∷ some (vint w64 (i .k)) ∷ none ∷ none ∷ none ∷ none ∷ none ∷ []) []
 
     turns : (i : X) → Sq W (At i) (runs (𝓣 .C) (𝓣 .Λ) En mir.turn-1 (anyQ (afterTurn 𝓤 H (Below 𝓤 H A Nearer At i) (afterBlock 𝓤 H (afterSeq 𝓤 H (Wp 𝓤 H (𝓣 .C) (𝓣 .Λ) En mir.t-4 (atReturn 𝓤 H En Post)) (atReturn 𝓤 H En Post))))))
     unfolding afterTurn
@@ -90,9 +88,9 @@ module _ {M : Type 1} (𝓤 : URA M) (H : Heap 𝓤) (A : Atoms 𝓤) (W : Given
         use1 W (‵ (cellAt q′ (R .mir) (LL.vals F.the-type F′.the-laws e) (x .ptr .0) (place 8 (x .ptr .1) (i .k)))) (W .laws .at-raw q′ F′.mir (x .ptr .0) (place 8 (x .ptr .1) (i .k)) (F′.lowered e)) $
         elem-back ! R q′ (x .now) (i .k) unused (LL.vals F.the-type F′.the-laws e) (x .ptr .0) (x .ptr .1) l $
         nothing ! $ owned ! R (Is R) (LL.makes F.the-type F′.the-plain 𝓤 H A) e _ g $ fjoin ! $
-        owned ! u32 (Is u32) (uint-makes 𝓤 H A W w32) (i .any) _ (refl, i .any-fits) $ fjoin ! $ use0 W (raw (emp 𝓤)) (id⊢ 𝓤 (emp 𝓤)) $
-        calls-on ! gather.ended (gather.clauses 𝓤 H A mem run) ((tt, tt, tt, (i .any, (e, tt)), (vint w32 (i .any) ∷ [], (F′.lowered e ∷ [], tt))), tt)
-        (λ r ws. eqb r 0 ≡ (eqb (i .any) 0 && isUnused e)) (fmOf 𝓤 H (W .laws) 𝓣) k₁ (id⊢ 𝓤 (emp 𝓤)) (λ r ws. id⊢ 𝓤 _) (λ r. vint w32 r) (uint-tells w32)
+        owned ! usize (Is usize) (uint-makes 𝓤 H A W w64) (i .any) _ (refl, i .any-fits) $ fjoin ! $ use0 W (raw (emp 𝓤)) (id⊢ 𝓤 (emp 𝓤)) $
+        calls-on ! gather.ended (gather.clauses 𝓤 H A mem run) ((tt, tt, tt, (i .any, (e, tt)), (vint w64 (i .any) ∷ [], (F′.lowered e ∷ [], tt))), tt)
+        (λ r ws. eqb r 0 ≡ (eqb (i .any) 0 && isUnused e)) (fmOf 𝓤 H (W .laws) 𝓣) k₁ (id⊢ 𝓤 (emp 𝓤)) (λ r ws. id⊢ 𝓤 _) (λ r. vint w64 r) (uint-tells w64)
         (and-then ! (var ! 15 refl) (and-then ! (var ! 11 refl) (no-more !))) (λ r _ ir er.
         land ! (from ! (stop !)) (store ! 17 refl (tt, record { fits = ir .1 })) $
         assigns-last ! (bin ! (var ! 15 refl) (lit ! tt) (record { fits = gk })) (from ! (stop !)) (store ! 15 refl (tt, record { fits = gk })) $

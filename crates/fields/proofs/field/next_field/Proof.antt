@@ -10,5 +10,5 @@ next-field-spec =
     tie.close
     (tie.spec
     (λ c κs. search needs)
-    (λ c κs. omega (arith, c .field-end .ensures, end-le (c .before .before .args .attrs .now) (c .before .before .args .cell), c .before .before .pre))
+    (λ c κs. let a = c .before .before in omega (arith, c .field-end .ensures, end-le (a .args .attrs .now) (a .args .cell), a .pre))
     (λ c. rw (sym (c .before .field-end .ensures), c .record-of .ensures)))

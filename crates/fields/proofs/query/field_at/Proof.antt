@@ -1,8 +1,8 @@
 -- `field_at` meets its contract: a walk of its MIR, by hand. It passes the list on to `scan_list`, and what comes of that to `found_in`.
-use Rattle.fields.proofs.Walk.{_≡_, refl, ap, _∙_, ℕ, _<_, _^_, true, List, [], _∷_, length, URA, named, w64, Val, vbool, vint, SProp, emp, id⊢, Lft, Share, flft, Memory, Routine, Heap, Calls}
-use Rattle.fields.proofs.Walk.{Loops, Atoms, FmC, fmOf, Fun, givenOf, tables, tablesOf, Given, ‵, raw, _⊛_, _$_, _∵_, !, qed, move, keep, use0, fsplit, fjoin, frame, done}
+use Rattle.fields.proofs.Walk.{_≡_, refl, ap, _∙_, ℕ, _<_, _^_, true, List, [], _∷_, length, URA, named, w64, Val, vbool, vint, SProp, emp, id⊢, Lft, Share, Memory, Routine, Heap, Calls}
+use Rattle.fields.proofs.Walk.{Loops, Atoms, FmC, fmOf, Fun, givenOf, tables, tablesOf, Given, ‵, raw, _$_, _∵_, !, qed, move, keep, use0, fsplit, fjoin, frame, done}
 use Rattle.fields.proofs.Walk.{suffices, look, init, stop, from, true-lit, and-then, no-more, land, returns, enter, alloc1, alloc0, params1, pass1, pass0, free0, RattleType, owns, Is}
-use Rattle.fields.proofs.Walk.{uint-vals, uint-tells, bool-makes, u8, usize, bool, RefT, slice-vals, ShrSlice, Room, shr-slice-tells, shr-slice-copy, owned, nothing, yes, alive, tripleOf}
+use Rattle.fields.proofs.Walk.{uint-vals, uint-tells, bool-makes, u8, usize, bool, RefT, slice-vals, ShrSlice, Room, shr-slice-tells, owned, nothing, yes, alive, tripleOf}
 use Rattle.fields.proofs.Walk.{Triple, entered, cited, says, Stays, stay-dropped, walkOf, ends-at, Walked, proves, frees, empties, calls-on, var}
 use denote.Enum.Laws as EL
 use denote.Struct.Laws as LL

@@ -12,4 +12,4 @@ check-spec =
     (λ c κs. search needs)
     (λ c. rw (sym (c .before .before .field-end .ensures), sym (c .before .says .ensures) ∙ not-true _ (c .if1 .taken)))
     (λ c. search needs)
-    (λ c. rw (sym (c .before .before .before .field-end .ensures), sym (c .before .before .says .ensures) ∙ not-false _ (c .before .if1 .left))))
+    (λ c. let b = c .before in rw (sym (b .before .before .field-end .ensures), sym (b .before .says .ensures) ∙ not-false _ (b .if1 .left))))

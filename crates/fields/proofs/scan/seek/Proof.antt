@@ -18,5 +18,5 @@ seek-spec =
       c .before .before .count .ensures,
       c .before .before .before .has-cell .ensures,
       c .before .before .before .before .is-protected .ensures,
-      c .before .before .before .before .before .wide .ensures,
+      c .before .before .before .before .before .wide .ensures .0,
     )))

@@ -1,5 +1,5 @@
 -- `rebuild` meets its contract: a walk of its MIR, by hand. The borrow of the list is opened once, before the loop, and closed after it; a turn stores the next field's record.
-use Rattle.fields.proofs.Walk.{_≡_, refl, sym, ap, subst, _∙_, ℕ, _+_, _-_, _*_, _<_, _≤_, _^_, arith, Option, none, some, List, [], _∷_, InvImage·wf, Nat·lt-wfRel, length, set, length-set, ltb→lt}
+use Rattle.fields.proofs.Walk.{_≡_, refl, sym, ap, subst, _∙_, ℕ, _+_, _-_, _*_, _<_, _≤_, _^_, arith, none, some, List, [], _∷_, InvImage·wf, Nat·lt-wfRel, length, set, length-set, ltb→lt}
 use Rattle.fields.proofs.Walk.{nltb→le, lit<, URA, fullShare, named, w64, tyPtr, Val, vunit, vint, vptr, SProp, emp, id⊢, Lft, Share, flft, fat, fobor, fobs, fauth, Memory, Routine, Heap, Env}
 use Rattle.fields.proofs.Walk.{Wp, Tables, afterSeq, afterBlock, afterTurn, atReturn, Atoms, fmOf, Fun, givenOf, tables, tablesOf, Given, Item, ‵, raw, _⊛_, runs, anyQ, atRet, Sq, _$_, _∵_, ! }
 use Rattle.fields.proofs.Walk.{qed, move, keep, drop, use0, use1, use2, split, fsplit, fjoin, feqI, frame, done, rewrite, suffices, look, init, store, stop, hop, from, lit, unit-lit, of-opd, bin}

@@ -1,12 +1,15 @@
 // Does a list agree with the attributes?
 ghost use mathlib.Core.Path.{_≡_};
 ghost use mathlib.Core.Bool.{_&&_};
-ghost use lib.ListN.{drop, length};
-ghost use lib.Dec.{eqb, leb};
+ghost use lib.ListN.{drop};
+ghost use lib.Dec.{eqb};
 ghost use Rattle.screen.specs.FieldList.{agrees};
 ghost use Rattle.fields.specs.inner.Records.{joined, isUnused, allUnused};
+ghost use Rattle.fields.specs.inner.Scans.{allRead};
 use crate::field::wide;
+use crate::scan::Scan;
 use crate::scan::scan_list;
+use crate::starts::count_starts;
 use screen::record::FieldRecord;
 
 // Both numbers of a record in one, as they lie side by side in memory: the compiler then reads them at once.
@@ -40,10 +43,14 @@ fn rest_unused(list: &[FieldRecord], from: usize) -> bool
     any == 0
 }
 
-fn all_read(cell: usize, cells: usize, rest: bool) -> bool
-    ensures { λ r. ⌜ r ≡ (leb cells cell && rest) ⌝ }
+// The records end where the screen does, and there are as many as fields.
+fn all_read(scan: Scan, attrs: &[u8], rest: bool) -> bool
+    ensures { λ r. ⌜ r ≡ (allRead scan (now (attrs .entry)) && rest) ⌝ }
 {
-    if cells <= cell {
+    if scan.cell != attrs.len() {
+        return false;
+    }
+    if scan.count == count_starts(attrs) {
         return rest;
     }
     false
@@ -54,5 +61,5 @@ pub fn agrees(list: &[FieldRecord], attrs: &[u8]) -> bool
 {
     let scan = scan_list(list, attrs, false, 0);
     let rest = rest_unused(list, scan.count);
-    all_read(scan.cell, attrs.len(), rest)
+    all_read(scan, attrs, rest)
 }

@@ -2,7 +2,7 @@
 ghost use mathlib.Core.Path.{_≡_};
 ghost use Prim.Native.Nat.{_<_, _≤_};
 ghost use lib.ListN.{length};
-ghost use Rattle.screen.specs.FieldList.{recordOf, sameRecord, hasCell};
+ghost use Rattle.screen.specs.FieldList.{recordOf, hasCell};
 ghost use Rattle.fields.specs.inner.Records.{nextField};
 use screen::field::field_end;
 use screen::record::FieldRecord;
@@ -17,25 +17,6 @@ pub(crate) fn wide(n: u32) -> usize
     ensures { λ r. ⌜ (r ≡ n) × (r < 4294967296) ⌝ }
 {
     n as usize
-}
-
-fn is_record(said: FieldRecord, start: usize, length: usize) -> bool
-    ensures { λ r. ⌜ r ≡ sameRecord said (record { start = start; length = length }) ⌝ }
-{
-    if wide(said.start) == start {
-        return wide(said.length) == length;
-    }
-    false
-}
-
-// Does the record say the cells from `start` up to `end`, or zeros where there are none?
-pub(crate) fn says(said: FieldRecord, start: usize, end: usize) -> bool
-    ensures { λ r. ⌜ r ≡ sameRecord said (recordOf start end) ⌝ }
-{
-    if start < end {
-        return is_record(said, start, end - start);
-    }
-    is_record(said, 0, 0)
 }
 
 pub(crate) fn has_cell(field: FieldRecord, cell: usize) -> bool

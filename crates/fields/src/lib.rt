@@ -6,4 +6,5 @@ pub mod check;
 mod field;
 pub mod query;
 mod scan;
+mod starts;
 pub mod write;

@@ -3,21 +3,20 @@ ghost use mathlib.Core.Path.{_≡_};
 ghost use mathlib.Core.Bool.{_&&_, not};
 ghost use Prim.Native.Nat.{_+_, _^_, _<_};
 ghost use Rattle.screen.specs.FieldList.{counted};
-ghost use Rattle.fields.specs.inner.Scans.{begun, checked, endsAt, sought, stepped, scanned};
+ghost use Rattle.fields.specs.inner.Scans.{begun, isNext, goesOn, checked, endsAt, sought, stepped, scanned};
 use crate::field::has_cell;
-use crate::field::says;
 use crate::field::wide;
 use screen::attribute::is_protected;
-use screen::field::field_end;
 use screen::record::FieldRecord;
+use screen::start::starts_at;
 
 // What a scan of the list has come to.
 pub struct Scan {
     // it looks for the record that has a cell; else it holds each record against the attributes
     pub seeks: bool,
-    // the cell looked for; else where the next field starts
+    // the cell looked for; else where the next record starts
     pub cell: usize,
-    // the unprotected fields so far; else the records that were right
+    // the unprotected fields so far; else the records that follow one on the other
     pub count: usize,
     // the last record read
     pub field: FieldRecord,
@@ -43,14 +42,34 @@ fn begin(seeks: bool, cell: usize) -> Scan
     }
 }
 
-// The record is held against the field that starts at the scan's cell. The scan goes up to the last field.
+// Does the record start at the scan's cell, with some cells?
+fn is_next(scan: Scan, said: FieldRecord) -> bool
+    ensures { λ r. ⌜ r ≡ isNext scan said ⌝ }
+{
+    if wide(said.start) != scan.cell {
+        return false;
+    }
+    said.length != 0
+}
+
+// Does a field start at a cell of the screen?
+fn goes_on(attrs: &[u8], cell: usize) -> bool
+    ensures { λ r. ⌜ r ≡ goesOn (now (attrs .entry)) cell ⌝ }
+{
+    if attrs.len() <= cell {
+        return false;
+    }
+    starts_at(attrs, cell)
+}
+
+// The record starts where the one before ended, and where it ends a field starts. That none starts in between is not looked at here:
+// as many records as fields cannot pass one over. The scan goes up to the screen's end.
 fn check(scan: Scan, said: FieldRecord, attrs: &[u8]) -> Scan
     requires { ⌜ scan .count + 1 < 2 ^ 64 ⌝ }
     ensures { λ r. ⌜ r ≡ checked scan said (now (attrs .entry)) ⌝ }
 {
-    let end = field_end(attrs, scan.cell);
-    let same = says(said, scan.cell, end);
-    if !same {
+    let next = is_next(scan, said);
+    if !next {
         return Scan {
             seeks: false,
             cell: scan.cell,
@@ -60,13 +79,15 @@ fn check(scan: Scan, said: FieldRecord, attrs: &[u8]) -> Scan
             stop: true,
         };
     }
+    let end = wide(said.start) + wide(said.length);
+    let on = goes_on(attrs, end);
     Scan {
         seeks: false,
         cell: end,
         count: scan.count + 1,
         field: said,
         found: false,
-        stop: attrs.len() <= end,
+        stop: !on,
     }
 }
 

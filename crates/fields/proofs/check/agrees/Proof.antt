@@ -1,16 +1,15 @@
 -- `agrees` meets its contract: a walk of its MIR, by hand. It passes the list on to `scan_list` and to `rest_unused`, and what comes of them to `all_read`.
 use Rattle.fields.proofs.Walk.{_≡_, refl, _∙_, ℕ, _<_, _^_, false, List, [], _∷_, length, lit<, URA, named, w64, vbool, vint, SProp, emp, id⊢, Lft, Share, flft, ftrue, Memory, Routine, Heap, Calls}
-use Rattle.fields.proofs.Walk.{Loops, Atoms, FmC, fmOf, Fun, givenOf, tables, tablesOf, Given, ‵, raw, _⊛_, _$_, _∵_, !, qed, move, keep, use0, use1, use2, split, fsplit, fjoin, frame, done}
-use Rattle.fields.proofs.Walk.{suffices, look, init, stop, from, lit, false-lit, of-opd, and-then, no-more, land, returns, enter, alloc1, alloc0, params1, pass1, pass0, free0, RattleType, owns, Is}
+use Rattle.fields.proofs.Walk.{Loops, Atoms, FmC, fmOf, Fun, givenOf, tables, tablesOf, Given, ‵, raw, _⊛_, _$_, _∵_, !, qed, move, keep, use1, use2, split, fsplit, fjoin, frame, done}
+use Rattle.fields.proofs.Walk.{suffices, look, init, stop, from, lit, false-lit, and-then, no-more, land, returns, enter, alloc1, alloc0, params1, pass1, pass0, free0, RattleType, owns, Is}
 use Rattle.fields.proofs.Walk.{uint-makes, bool-tells, bool-makes, u8, usize, bool, RefT, slice-vals, ShrSlice, Room, shr-slice-tells, shr-slice-copy, owned, nothing, yes, alive, tripleOf}
-use Rattle.fields.proofs.Walk.{Triple, entered, cited, says, Stays, stay-dropped, walkOf, ends-at, Walked, proves, frees, empties, calls-on, var, var-in, sets, whole, sub}
+use Rattle.fields.proofs.Walk.{Triple, entered, cited, says, Stays, stay-dropped, walkOf, ends-at, Walked, proves, frees, empties, calls-on, var, var-in, whole, sub}
 use mathlib.Core.Bool.{_&&_}
-use lib.Dec.{leb}
 use lib.ListN.{drop}
 use denote.Struct.Laws as LL
 use Rattle.screen.specs.declared.record.FieldRecord.{FieldRecord}
 use Rattle.fields.specs.inner.Records.{allUnused}
-use Rattle.fields.specs.inner.Scans.{begun, scanned}
+use Rattle.fields.specs.inner.Scans.{begun, scanned, allRead}
 use Rattle.fields.proofs.ScanLaws.{scan-agrees}
 use Rattle.screen.proofs.record.FieldRecord as F
 use Rattle.fields.proofs.scan.Scan as S
@@ -47,41 +46,41 @@ module _ {M : Type 1} (𝓤 : URA M) (H : Heap 𝓤) (A : Atoms 𝓤) (W : Given
       → Triple 𝓤 (C #all-read) (tripleOf 𝓤 H A all-read.signature (all-read.spec 𝓤 H A mem run)) → Walked 𝓤 H A agrees.ended stayed (agrees.clauses 𝓤 H A mem run) C Λ code.function at
   walk gx gy C Λ fm k₁ k₂ k₃ =
       qed W (raw (alive 𝓤 H A agrees.signature (κ₀, (κ₁, tt)) (q₀, (q₁, tt))) ∷ ‵ (owns (ShrSlice (named 0) κ₀ R ∷ ShrSlice (named 1) κ₁ u8 ∷ []) (at .0 .3) (at .0 .4)) ∷ []) ∵
-      enter ! C Λ code.function _ _ $ alloc1 ! (λ l₀. alloc1 ! (λ l₁. alloc1 ! (λ l₂. alloc1 ! (λ l₃. alloc1 ! (λ l₄. alloc1 ! (λ l₅. alloc0 ! $ params1 ! $
-      pass1 ! (init ! 8 refl (tt, (tt, (record { fits = gx .0 }, tt)))) $ pass1 ! (init ! 6 refl (tt, (tt, (record { fits = gy .0 }, tt)))) $ pass0 ! $
-      -- [_5; …; _4; …; _3; …; _2; …; _1; …; _0; …; the tokens; list and attrs]
-      move ! (13 ∷ []) $ fsplit ! $
+      enter ! C Λ code.function _ _ $ alloc1 ! (λ l₀. alloc1 ! (λ l₁. alloc1 ! (λ l₂. alloc1 ! (λ l₃. alloc1 ! (λ l₄. alloc0 ! $ params1 ! $
+      pass1 ! (init ! 6 refl (tt, (tt, (record { fits = gx .0 }, tt)))) $ pass1 ! (init ! 4 refl (tt, (tt, (record { fits = gy .0 }, tt)))) $ pass0 ! $
+      -- [_4; …; _3; …; _2; …; _1; …; _0; …; the tokens; list and attrs]
+      move ! (11 ∷ []) $ fsplit ! $
       use1 W (‵ (ShrSlice (named 0) κ₀ R .own x (slice-vals x)) ⊛ ‵ (ShrSlice (named 0) κ₀ R .own x (slice-vals x))) (shr-slice-copy 𝓤 H A W (named 0) κ₀ R .twice x (slice-vals x)) $ split ! $
-      move ! (2 ∷ []) $ fsplit ! $ move ! (1 ∷ []) $ owned ! usize (Is usize) (uint-makes 𝓤 H A W w64) 0 (vint w64 0 ∷ []) (refl, lit< tt) $ fjoin ! $
-      owned ! bool (Is bool) (bool-makes 𝓤 H A W) false (vbool false ∷ []) refl $ fjoin ! $ move ! (1 ∷ 0 ∷ []) $ fjoin ! $ move ! (1 ∷ 0 ∷ []) $ fjoin ! $ move ! (14 ∷ 0 ∷ []) $
+      move ! (2 ∷ []) $ fsplit ! $
+      use1 W (‵ (ShrSlice (named 1) κ₁ u8 .own y (slice-vals y)) ⊛ ‵ (ShrSlice (named 1) κ₁ u8 .own y (slice-vals y))) (shr-slice-copy 𝓤 H A W (named 1) κ₁ u8 .twice y (slice-vals y)) $ split ! $
+      move ! (2 ∷ []) $ owned ! usize (Is usize) (uint-makes 𝓤 H A W w64) 0 (vint w64 0 ∷ []) (refl, lit< tt) $ fjoin ! $
+      owned ! bool (Is bool) (bool-makes 𝓤 H A W) false (vbool false ∷ []) refl $ fjoin ! $ move ! (1 ∷ 0 ∷ []) $ fjoin ! $ move ! (2 ∷ 0 ∷ []) $ fjoin ! $ move ! (13 ∷ 0 ∷ []) $
       calls-on ! scan-list.ended (scan-list.clauses 𝓤 H A mem run) (((κ₀, (κ₁, tt)), (q₀, (q₁, tt)), tt, (x, (y, (false, (0, tt)))), (slice-vals x, (slice-vals y, (vbool false ∷ [], (vint w64 0 ∷ [], tt))))), tt)
       (λ r ws. r ≡ scanned (begun false 0) (x .now) (y .now)) fm k₁ (id⊢ 𝓤 (emp 𝓤)) (λ r ws. id⊢ 𝓤 _) S′.lowered (LL.tells S.the-type S′.the-laws)
-      (and-then ! (var ! 10 refl) (and-then ! (var ! 8 refl) (and-then ! (false-lit !) (and-then ! (lit ! tt) (no-more !))))) (λ s _ is e₁.
-      let gc : s .cell < 2 ^ 64 = LL.owed S.the-type S′.the-laws s _ is .1 .0 .1 in
+      (and-then ! (var ! 9 refl) (and-then ! (var ! 7 refl) (and-then ! (false-lit !) (and-then ! (lit ! tt) (no-more !))))) (λ s _ is e₁.
       let gn : s .count < 2 ^ 64 = LL.owed S.the-type S′.the-laws s _ is .1 .1 .0 .1 in
-      land ! (from ! (stop !)) (init ! 8 refl (LL.lawful S.the-type S′.the-laws 𝓤 H A W .typed s _ is .0)) $
-      -- [the tokens; the scan; last values; list; _5; …]
-      use1 W (‵ (flft κ₀ q₀) ⊛ raw (alive 𝓤 H A rest-unused.signature (κ₁, tt) (q₁, tt))) (id⊢ 𝓤 _) $ split ! $
+      land ! (from ! (stop !)) (init ! 7 refl (LL.lawful S.the-type S′.the-laws 𝓤 H A W .typed s _ is .0)) $
+      -- [the tokens; the scan; last values; attrs; list; _4; …]
+      use1 W (‵ (flft κ₀ q₀) ⊛ raw (alive 𝓤 H A all-read.signature (κ₁, tt) (q₁, tt))) (id⊢ 𝓤 _) $ split ! $
       nothing ! $ move ! (1 ∷ 0 ∷ []) $ use2 W (raw (alive 𝓤 H A rest-unused.signature (κ₀, tt) (q₀, tt))) (id⊢ 𝓤 _) $
-      nothing ! $ owned ! usize (Is usize) (uint-makes 𝓤 H A W w64) (s .count) _ (refl, gn) $ fjoin ! $ move ! (5 ∷ 0 ∷ []) $ fjoin ! $ move ! (1 ∷ 0 ∷ []) $
+      nothing ! $ owned ! usize (Is usize) (uint-makes 𝓤 H A W w64) (s .count) _ (refl, gn) $ fjoin ! $ move ! (6 ∷ 0 ∷ []) $ fjoin ! $ move ! (1 ∷ 0 ∷ []) $
       calls-on ! rest-unused.ended (rest-unused.clauses 𝓤 H A mem run) (((κ₀, tt), (q₀, tt), tt, (x, (s .count, tt)), (slice-vals x, (vint w64 (s .count) ∷ [], tt))), tt)
       (λ r ws. r ≡ allUnused (drop (s .count) (x .now))) fm k₂ (id⊢ 𝓤 (emp 𝓤)) (λ r ws. id⊢ 𝓤 _) vbool bool-tells
-      (and-then ! (var ! 12 refl) (and-then ! (var-in ! 8 refl (sub ! 2 refl (whole !))) (no-more !))) (λ rest _ ib e₂.
-      land ! (from ! (stop !)) (init ! 8 refl (tt, tt)) $
-      -- [list's token; the answer; last values; attrs' token; the scan; last values; _5; …]
-      sets ! (of-opd ! (var-in ! 12 refl (sub ! 1 refl (whole !)))) 6 refl (tt, record { fits = gy .0 }) $
-      nothing ! $ owned ! bool (Is bool) (bool-makes 𝓤 H A W) rest _ refl $ fjoin ! $ owned ! usize (Is usize) (uint-makes 𝓤 H A W w64) (length (y .now)) _ (refl, gy .0) $ fjoin ! $
-      owned ! usize (Is usize) (uint-makes 𝓤 H A W w64) (s .cell) _ (refl, gc) $ fjoin ! $ use0 W (raw (emp 𝓤)) (id⊢ 𝓤 (emp 𝓤)) $
-      calls-on ! all-read.ended (all-read.clauses 𝓤 H A mem run) ((tt, tt, tt, (s .cell, (length (y .now), (rest, tt))), (vint w64 (s .cell) ∷ [], (vint w64 (length (y .now)) ∷ [], (vbool rest ∷ [], tt)))), tt)
-      (λ r ws. r ≡ (leb (length (y .now)) (s .cell) && rest)) fm k₃ (id⊢ 𝓤 (emp 𝓤)) (λ r ws. id⊢ 𝓤 _) vbool bool-tells
-      (and-then ! (var-in ! 11 refl (sub ! 1 refl (whole !))) (and-then ! (var ! 7 refl) (and-then ! (var ! 9 refl) (no-more !)))) (λ r _ ir e₃.
-      land ! (from ! (stop !)) (init ! 19 refl (tt, tt)) $
-      returns ! (look ! 19 refl) $ frees ! 19 refl refl $ frees ! 17 refl refl $ frees ! 15 refl refl $ frees ! 13 refl refl $ frees ! 11 refl refl $ frees ! 9 refl refl $ free0 ! $
+      (and-then ! (var ! 11 refl) (and-then ! (var-in ! 7 refl (sub ! 2 refl (whole !))) (no-more !))) (λ rest _ ib e₂.
+      land ! (from ! (stop !)) (init ! 7 refl (tt, tt)) $
+      -- [list's token; the answer; last values; attrs' token; the scan; last values; attrs; _4; …]
+      nothing ! $ owned ! bool (Is bool) (bool-makes 𝓤 H A W) rest _ refl $ fjoin ! $ move ! (7 ∷ 0 ∷ []) $ fjoin ! $
+      owned ! S.the-row (Is S.the-row) (LL.makes S.the-type S′.the-plain 𝓤 H A) s _ is $ fjoin ! $ move ! (4 ∷ 0 ∷ []) $
+      calls-on ! all-read.ended (all-read.clauses 𝓤 H A mem run) (((κ₁, tt), (q₁, tt), tt, (s, (y, (rest, tt))), (S′.lowered s ∷ [], (slice-vals y, (vbool rest ∷ [], tt)))), tt)
+      (λ r ws. r ≡ (allRead s (y .now) && rest)) fm k₃ (id⊢ 𝓤 (emp 𝓤)) (λ r ws. id⊢ 𝓤 _) vbool bool-tells
+      (and-then ! (var ! 8 refl) (and-then ! (var ! 10 refl) (and-then ! (var ! 6 refl) (no-more !)))) (λ r _ ir e₃.
+      land ! (from ! (stop !)) (init ! 16 refl (tt, tt)) $
+      returns ! (look ! 16 refl) $ frees ! 16 refl refl $ frees ! 14 refl refl $ frees ! 12 refl refl $ frees ! 10 refl refl $ frees ! 8 refl refl $ free0 ! $
       suffices ! _ (ends-at 𝓤 H A agrees.ended stayed (agrees.clauses 𝓤 H A mem run) W at (vbool r) r (tt, (tt, tt)) (tt, (tt, tt))) $
       says ! (e₃ ∙ rw e₂ (scan-agrees (y .now) (x .now) s e₁)) $
-      -- [nothing; the result; last values; list's token; the answer; last values; attrs' token; …]
-      move ! (3 ∷ []) $ use1 W (‵ (flft κ₀ q₀) ⊛ ‵ ftrue) (id⊢ 𝓤 _) $ split ! $ move ! (0 ∷ 7 ∷ []) $ use2 W (raw (alive 𝓤 H A agrees.signature (κ₀, (κ₁, tt)) (q₀, (q₁, tt)))) (id⊢ 𝓤 _) $
-      frame ! $ empties ! 2 $ frame ! $ keep ! (2 ∷ []) $ done !)))))))))
+      -- [attrs' token; the result; last values; list's token; …]
+      move ! (3 ∷ []) $ use1 W (‵ (flft κ₀ q₀) ⊛ ‵ ftrue) (id⊢ 𝓤 _) $ split ! $ move ! (0 ∷ 2 ∷ []) $ use2 W (raw (alive 𝓤 H A agrees.signature (κ₀, (κ₁, tt)) (q₀, (q₁, tt)))) (id⊢ 𝓤 _) $
+      frame ! $ empties ! 2 $ frame ! $ keep ! (1 ∷ []) $ done !))))))))
 
 pub agrees-spec : {M : Type 1} → stated.statement M
 unfolding code.routine tablesOf

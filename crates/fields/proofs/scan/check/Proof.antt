@@ -9,7 +9,16 @@ check-spec =
     tie.close
     (tie.spec
     (λ c κs. search needs)
+    (λ c. rw (sym (c .before .is-next .ensures) ∙ not-true _ (c .if1 .taken)))
     (λ c κs. search needs)
-    (λ c. rw (sym (c .before .before .field-end .ensures), sym (c .before .says .ensures) ∙ not-true _ (c .if1 .taken)))
+    (λ c κs. search needs)
     (λ c. search needs)
-    (λ c. let b = c .before in rw (sym (b .before .before .field-end .ensures), sym (b .before .says .ensures) ∙ not-false _ (b .if1 .left))))
+    (λ c κs. search needs)
+    (λ c. search needs)
+    (λ c. let b = c .before .before in
+    rw (
+      c .before .goes-on .ensures,
+      b .wide2 .ensures .0,
+      b .before .wide .ensures .0,
+      sym (b .before .before .before .is-next .ensures) ∙ not-false _ (b .before .before .if1 .left),
+    )))

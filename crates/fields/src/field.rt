@@ -46,10 +46,18 @@ fn record_of(start: usize, end: usize) -> FieldRecord
     }
 }
 
+// Most records of a list stand behind the last field: those are answered at once.
 pub(crate) fn next_field(attrs: &[u8], cell: usize) -> Next
     requires { ⌜ length (now attrs) ≤ 8448 ⌝ }
     ensures { λ r. ⌜ r ≡ nextField (now (attrs .entry)) cell ⌝ }
 {
+    if attrs.len() <= cell {
+        let none = record_of(0, 0);
+        return Next {
+            field: none,
+            end: attrs.len(),
+        };
+    }
     let end = field_end(attrs, cell);
     let field = record_of(cell, end);
     Next {

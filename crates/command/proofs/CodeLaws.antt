@@ -1,13 +1,13 @@
 -- Laws of the table of codes: which command a code means, and which code a command has.
-use mathlib.Core.Path.{_≡_, refl, sym}
+use mathlib.Core.Path.{_≡_, refl}
 use mathlib.Core.Bool.{Bool, true, false, _&&_}
 use mathlib.Core.List.{List, [], _∷_}
 use Prim.Native.Nat.{ℕ, zero, suc, _+_, _-_, _≤_, _<_}
 use native.Mathlib.Omega.{arith}
-use borrow.Author.Tests.{eqb-true, eqb-false, leb-true, ltb-true, ltb-false, lt-ltb, le-ltb, not-true}
-use lib.Dec.{leb, ltb, eqb}
+use borrow.Author.Tests.{eqb-true, eqb-false, leb-true, lt-ltb, le-ltb, not-true}
+use lib.Dec.{leb, eqb}
 use lib.ListN.{getD}
-use Rattle.words.specs.Words.{if_then_else_, between}
+use Rattle.words.specs.Words.{between}
 use Rattle.words.proofs.Laws.{true-or-false, less-or-not, not-both, and-left, and-right, in-between, above-between}
 use Rattle.rules.specs.declared.Edition.{Edition}
 use Rattle.rules.specs.declared.Edition.the-variants.{June, September}

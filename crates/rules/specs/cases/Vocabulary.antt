@@ -16,7 +16,6 @@ use Rattle.pad.specs.declared.message.Stage.{Stage}
 use Rattle.pad.specs.declared.message.Stage.the-variants.{Code, Parameter, Value}
 use Rattle.screen.specs.Cells.{place}
 use Rattle.rules.specs.declared.Reader.{Reader}
-use Rattle.rules.specs.declared.Edition.{Edition}
 use Rattle.rules.specs.declared.Edition.the-variants.{June, September}
 use Rattle.rules.specs.declared.Frame.{Frame}
 use Rattle.rules.specs.declared.Maps.{Maps}

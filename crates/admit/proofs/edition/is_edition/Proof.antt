@@ -1,5 +1,5 @@
 -- `is_edition` meets its contract: one case for each number, and one for the rest.
-use borrow.Author.Tests.{eq-eqb, ne-eqb}
+use borrow.Author.Tests.{ne-eqb}
 use Rattle.rules.specs.Edition.{isEdition}
 use Rattle.admit.proofs.edition.is_edition.Statement.{statement}
 use Rattle.admit.proofs.edition.is_edition.Tie as tie

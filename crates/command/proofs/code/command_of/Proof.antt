@@ -1,6 +1,5 @@
 -- `command_of` meets its contract: past the table, or by the entry of the code.
 use mathlib.Core.Path.{_∙_}
-use native.Mathlib.Omega.{arith}
 use borrow.Author.Needs.{needs}
 use Rattle.command.proofs.CodeLaws.{entry-means, past-table}
 use Rattle.command.proofs.code.command_of.Statement.{statement}

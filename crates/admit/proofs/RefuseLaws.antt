@@ -1,7 +1,7 @@
--- Laws of refusals: the sizes, the least and the greatest character, and the greatest mark.
-use mathlib.Core.Path.{◌≡◌, refl, sym}
-use mathlib.Core.Bool.{Bool, true, false, ◌&&◌}
-use mathlib.Core.List.{List}
+-- Laws of refusals: lists of tests, the sizes, the least and the greatest character, and the greatest mark.
+use mathlib.Core.Path.{◌≡◌, refl}
+use mathlib.Core.Bool.{Bool, true, false, not, ◌&&◌}
+use mathlib.Core.List.{List, [], ◌∷◌, ◌++◌}
 use Prim.Native.Nat.{ℕ, suc, ◌+◌, ◌*◌, ◌≤◌, ◌<◌, min, max}
 use native.Mathlib.Omega.{arith}
 use native.Mathlib.Numerals.{add-one}
@@ -9,20 +9,32 @@ use borrow.Author.Tests.{leb-true, leb-false, le-leb, lt-leb}
 use lib.Dec.{leb}
 use lib.ListN.{length, get_or, drop}
 use lib.Seq.{drop-cons}
-use Rattle.words.specs.Words.{if◌then◌else◌, between}
-use Rattle.words.proofs.Laws.{true_or_false, and_left, and_right}
+use Rattle.words.specs.Words.{between}
+use Rattle.words.proofs.Laws.{true_or_false, not_both, and_left, and_right}
 use Rattle.screen.proofs.CellLaws.{cells_few}
-use Rattle.rules.specs.declared.Refusal.{Refusal}
 use Rattle.rules.specs.declared.Refusal.TheVariants.{Taken}
 use Rattle.rules.specs.Session.{sizes_ok, all_printable, all_marks}
-use Rattle.rules.specs.Refusal.{is_taken}
-use Rattle.rules.proofs.Refusals.{is_taken_lem}
+use Rattle.rules.specs.Refusal.{Test, is_taken, verdict}
+use Rattle.rules.proofs.Refusals.{refuses}
+
+-- ---- some tests, and then others
+
+-- the others decide where the first are passed
+pub passed_on : (ts us : List Test) → refuses ts ≡ true → verdict ts ≡ Taken → verdict (ts ++ us) ≡ verdict us
+unfolding verdict
+passed_on [] us r e = refl
+passed_on (t ∷ ts) us r e =
+    true_or_false t.passes
+    (λ p. rw p (passed_on ts us (and_right (not (is_taken t.otherwise)) _ r) (rw p at e)))
+    (λ p. let o : t.otherwise ≡ Taken = rw p at e in not_both false (rw o at r) refl)
+
+-- where one of the first fails, it decides
+pub failed_first : (ts us : List Test) → is_taken (verdict ts) ≡ false → verdict (ts ++ us) ≡ verdict ts
+unfolding verdict
+failed_first [] us e = not_both true refl e
+failed_first (t ∷ ts) us e = true_or_false t.passes (λ p. rw p (failed_first ts us (rw p at e))) (λ p. rw p)
 
 -- ---- the tests
-
--- a test that was made already, by itself
-pub test_alone : (r : Refusal) → (if is_taken r then Taken else r) ≡ r
-test_alone r = true_or_false (is_taken r) (λ t. rw t (sym (is_taken_lem r t))) (λ f. rw f refl)
 
 -- the sizes have their bounds
 pub bounds : (m n : ℕ) → sizes_ok m n ≡ true → (m ≤ 132) × (n ≤ 64)

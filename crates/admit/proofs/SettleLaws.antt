@@ -18,8 +18,7 @@ use Rattle.rules.specs.Session.{Screen, State, fresh_frame, fresh, screen}
 use Rattle.rules.specs.Edition.{edition_of}
 use Rattle.rules.specs.Refusal.{is_taken, verdict, open_tests}
 use Rattle.rules.specs.Operation.{Outcome, outcome, unless, opened}
-use Rattle.rules.specs.Listed.{open_refusal, opened_with}
-use Rattle.rules.proofs.Refusals.{all_pass, first_taken}
+use Rattle.rules.proofs.Refusals.{all_pass}
 use Rattle.admit.specs.Refused.{refused_answer}
 use Rattle.admit.proofs.RefuseLaws.{bounds}
 
@@ -37,21 +36,18 @@ module _ {why r : Refusal} (s : State) (reply : List ℕ) (done : Outcome) (e : 
 
 -- ---- open
 
-module _ (m n named : ℕ) (b : Screen) (records : ℕ) {why : Refusal} (e : why ≡ open_refusal m n named b records) where
+module _ (m n named : ℕ) (b : Screen) {why : Refusal} (e : why ≡ verdict (open_tests (fresh_frame m n (edition_of named)) named b)) where
   pub open_refused : {s : Session} {a : Answer} → is_taken why ≡ false → s ≡ fresh 0 0 September → a ≡ refused_answer s why
-      → outcome a b [] ≡ opened_with m n named b records
-  unfolding opened_with
+      → outcome a b [] ≡ opened m n named b
+  unfolding opened
   open_refused f p q = settled_refused _ _ _ e f (rw (← p) q)
 
   module _ (t : why ≡ Taken) where
-    tests : is_taken (verdict (open_tests (fresh_frame m n (edition_of named)) named b)) ≡ true
-    tests = first_taken (open_tests (fresh_frame m n (edition_of named)) named b) _ (ap is_taken (sym e ∙ t))
-
     -- the sizes and the lengths, as refusals 1 and 2 ask
     pub open_sizes : (m ≤ 132) × (n ≤ 64) × (length b.chars ≡ n * m) × (length b.attrs ≡ n * m) × (length b.marks ≡ n * m)
     unfolding open_tests
     open_sizes =
-        let passed = all_pass (open_tests (fresh_frame m n (edition_of named)) named b) refl tests in
+        let passed = all_pass (open_tests (fresh_frame m n (edition_of named)) named b) refl (ap is_taken (sym e ∙ t)) in
         let sizes = bounds m n passed.0 in
         let c = and_left (eqb (length b.chars) (n * m)) _ passed.1.1.0 in
         let both = and_right (eqb (length b.chars) (n * m)) _ passed.1.1.0 in
@@ -62,8 +58,8 @@ module _ (m n named : ℕ) (b : Screen) (records : ℕ) {why : Refusal} (e : why
     pub open_done : {s : Session} {chars attrs marks : List ℕ} → s ≡ fresh m n (edition_of named)
         → chars ≡ erased true b.chars b.attrs 0 (length b.chars) → attrs ≡ filled 0 (length b.attrs) 0 b.attrs
         → marks ≡ filled 0 (length b.marks) 0 b.marks
-        → outcome (record { session = s; refusal = Taken; taken = 0; written = 0 }) (screen chars attrs marks) [] ≡ opened_with m n named b records
-    unfolding opened_with opened unless
+        → outcome (record { session = s; refusal = Taken; taken = 0; written = 0 }) (screen chars attrs marks) [] ≡ opened m n named b
+    unfolding opened
     open_done p c q k =
         settled_done _ _ _ e t
-        (rw (tests, p, c, q, k, all_spaces b.attrs b.chars, all_zeros b.attrs, all_zeros b.marks, open_sizes.2, open_sizes.3, open_sizes.4))
+        (rw (p, c, q, k, all_spaces b.attrs b.chars, all_zeros b.attrs, all_zeros b.marks, open_sizes.2, open_sizes.3, open_sizes.4))

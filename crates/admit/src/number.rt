@@ -22,7 +22,5 @@ pub fn number_of(refusal: Refusal) -> u8
         Refusal::LineFull => 10,
         Refusal::BadMark => 11,
         Refusal::UnknownEdition => 12,
-        Refusal::ListRoom => 13,
-        Refusal::ListDisagrees => 14,
     }
 }

@@ -1,8 +1,7 @@
 // Opening a session, and the answer of any call that is refused.
 ghost use Rattle.std.specs.Prelude.{◌≡◌, []};
 ghost use Rattle.rules.specs.Session.{fresh_pad, fresh};
-ghost use Rattle.rules.specs.Operation.{outcome};
-ghost use Rattle.rules.specs.Listed.{opened_with};
+ghost use Rattle.rules.specs.Operation.{outcome, opened};
 ghost use Rattle.command.specs.Frame.{lent};
 ghost use Rattle.admit.specs.Refused.{refused_answer};
 
@@ -71,8 +70,7 @@ pub fn refused(session: Session, refusal: Refusal) -> Answer
 }
 
 // A fresh session of these sizes and the edition that is named, a space in every cell, every attribute byte 0 and no mark. The numbers
-// are wide, so that nothing a caller passes is cut off. Of the list of fields it goes by the number of records; whoever has the list
-// writes it.
+// are wide, so that nothing a caller passes is cut off.
 pub fn open(
     width: usize,
     height: usize,
@@ -80,12 +78,11 @@ pub fn open(
     chars: &mut [u8],
     attrs: &mut [u8],
     marks: &mut [u8],
-    records: usize,
 ) -> Answer
     ensures { outcome result (lent chars.exit attrs.exit marks.exit) []
-        ≡ opened_with width height named (lent chars.entry attrs.entry marks.entry) records }
+        ≡ opened width height named (lent chars.entry attrs.entry marks.entry) }
 {
-    let why = refuse_open(width, height, named, chars, attrs, marks, records);
+    let why = refuse_open(width, height, named, chars, attrs, marks);
     let Refusal::Taken = why else {
         return refused(fresh_session(0, 0, Edition::September), why);
     };

@@ -1,10 +1,11 @@
 // What every operation asks of its sizes, session and buffers, in document 01's order.
-ghost use Rattle.std.specs.Prelude.{◌≡◌, not, ◌&&◌, ◌||◌, List, [], ◌∷◌, ℕ, min, max, leb, eqb, length};
+ghost use Rattle.std.specs.Prelude.{◌≡◌, not, ◌&&◌, ◌||◌, List, ℕ, min, max, leb, eqb, length};
 ghost use Rattle.rules.specs.Session.{
   sizes_ok,
   cells,
   reply_room,
   x3_cells,
+  fresh_frame,
   all_printable,
   all_marks,
   pad_ok,
@@ -12,11 +13,10 @@ ghost use Rattle.rules.specs.Session.{
   screen,
   state,
 };
-ghost use Rattle.rules.specs.Refusal.{verdict_test, verdict, size_tests, form_tests, room_tests};
-ghost use Rattle.rules.specs.Call.{host};
-ghost use Rattle.rules.specs.Listed.{open_refusal, refusal_with};
+ghost use Rattle.rules.specs.Edition.{edition_of};
+ghost use Rattle.rules.specs.Refusal.{verdict, open_tests, size_tests, state_tests};
+ghost use Rattle.rules.specs.Operation.{host_refusal};
 ghost use Rattle.command.specs.Frame.{lent};
-ghost use Rattle.admit.specs.Asked.{asked_refusal};
 
 use crate::edition::is_edition;
 use pad::parameter::all_admissible;
@@ -147,7 +147,7 @@ fn lengths_ok(cells: usize, chars: &[u8], attrs: &[u8], marks: &[u8]) -> bool
     marks.len() == cells
 }
 
-// Refusals 1, 12, 2 and 13, all that open has: of the list it goes by the number of records.
+// Refusals 1, 12 and 2, all that open has.
 pub(crate) fn refuse_open(
     m: usize,
     n: usize,
@@ -155,9 +155,9 @@ pub(crate) fn refuse_open(
     chars: &[u8],
     attrs: &[u8],
     marks: &[u8],
-    records: usize,
 ) -> Refusal
-    ensures { result ≡ open_refusal m n named (lent chars.entry attrs.entry marks.entry) records }
+    ensures { result ≡ verdict (open_tests (fresh_frame m n (edition_of named)) named
+        (lent chars.entry attrs.entry marks.entry)) }
 {
     let sized = sizes_ok(m, n);
     if !sized {
@@ -167,13 +167,9 @@ pub(crate) fn refuse_open(
     if !known {
         return Refusal::UnknownEdition;
     }
-    let cells = n * m;
-    let long = lengths_ok(cells, chars, attrs, marks);
+    let long = lengths_ok(n * m, chars, attrs, marks);
     if !long {
         return Refusal::BufferLength;
-    }
-    if records < cells {
-        return Refusal::ListRoom;
     }
     Refusal::Taken
 }
@@ -195,9 +191,10 @@ fn refuse_sizes(frame: Frame, chars: &[u8], attrs: &[u8], marks: &[u8]) -> Refus
     Refusal::Taken
 }
 
-// Refusals 3, 4 and 11.
-fn refuse_form(session: Session, chars: &[u8], marks: &[u8]) -> Refusal
-    ensures { (attrs : List ℕ) → result ≡ verdict (form_tests session (screen chars.now attrs marks.now)) }
+// Refusals 3, 4, 11 and 5.
+fn refuse_state(session: Session, chars: &[u8], marks: &[u8], reply: &[u8]) -> Refusal
+    ensures { (attrs : List ℕ)
+        → result ≡ verdict (state_tests session (screen chars.now attrs marks.now) reply.now) }
 {
     let printable = all_printable(chars);
     if !printable {
@@ -211,62 +208,19 @@ fn refuse_form(session: Session, chars: &[u8], marks: &[u8]) -> Refusal
     if !small {
         return Refusal::BadMark;
     }
-    Refusal::Taken
-}
-
-// 13 or 14, which the list was found to have, and 5.
-fn refuse_last(frame: Frame, listed: Refusal, reply: &[u8]) -> Refusal
-    ensures { result ≡ verdict (verdict_test listed ∷ room_tests frame reply.now) }
-{
-    let Refusal::Taken = listed else {
-        return listed;
-    };
-    if reply.len() < reply_room(frame) {
+    if reply.len() < reply_room(session.frame) {
         return Refusal::ReplyRoom;
     }
     Refusal::Taken
 }
 
-// Refusals 1 to 5 and 11, of host bytes and of a key, with what the list was found to have at its place.
-pub fn refuse(
-    session: Session,
-    chars: &[u8],
-    attrs: &[u8],
-    marks: &[u8],
-    listed: Refusal,
-    reply: &[u8],
-) -> Refusal
-    ensures { result ≡ refusal_with (verdict_test listed ∷ []) (state session (lent chars.entry attrs.entry marks.entry))
-        (host [] reply.now) }
+// Refusals 1 to 5 and 11, of host bytes and of a key.
+pub fn refuse(session: Session, chars: &[u8], attrs: &[u8], marks: &[u8], reply: &[u8]) -> Refusal
+    ensures { result ≡ host_refusal (state session (lent chars.entry attrs.entry marks.entry)) reply.now }
 {
-    let sizes = refuse_sizes(session.frame, chars, attrs, marks);
-    let Refusal::Taken = sizes else {
-        return sizes;
+    let why = refuse_sizes(session.frame, chars, attrs, marks);
+    let Refusal::Taken = why else {
+        return why;
     };
-    let form = refuse_form(session, chars, marks);
-    let Refusal::Taken = form else {
-        return form;
-    };
-    refuse_last(session.frame, listed, reply)
-}
-
-// Refusals 1, 2 and 4 of the question which field the cursor is in, and 13 or 14, which the list was found to have.
-pub fn refuse_asked(session: Session, attrs: &[u8], listed: Refusal) -> Refusal
-    ensures { result ≡ asked_refusal session attrs.now listed }
-{
-    let frame = session.frame;
-    let m = frame.width as usize;
-    let n = frame.height as usize;
-    let sized = sizes_ok(m, n);
-    if !sized {
-        return Refusal::Size;
-    }
-    if attrs.len() != n * m {
-        return Refusal::BufferLength;
-    }
-    let sound = session_ok(session);
-    if !sound {
-        return Refusal::BadSession;
-    }
-    listed
+    refuse_state(session, chars, marks, reply)
 }

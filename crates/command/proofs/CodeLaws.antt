@@ -15,7 +15,7 @@ use Rattle.rules.specs.declared.Code.TheVariants.{Unknown}
 use Rattle.rules.specs.Edition.{code_for, meant_by, holds}
 use Rattle.rules.specs.Command.{Row, rows, unlisted, row_in, row_of, meaning}
 use Rattle.command.specs.declared.code.Entry.{Entry}
-use Rattle.command.specs.Inner.Codes.{entry_of, entries_from, entries}
+use Rattle.command.specs.Inner.Codes.{entry_of, entries_from, entries, array_of}
 
 -- ---- reading
 
@@ -27,8 +27,18 @@ entry_from e i (suc n) (suc k) h =
     let there : i + suc k ≡ suc i + k = omega arith in rw there (entry_from e (suc i) n k (omega arith))
 
 -- the entry at a place
-pub entry_at : (e : Edition) (code : ℕ) → code < 42 → get_or (entries e) code (record { 0 = 0 }) ≡ entry_of e code
+entry_at : (e : Edition) (code : ℕ) → code < 42 → get_or (entries e) code (record { 0 = 0 }) ≡ entry_of e code
 entry_at e code h = let here : 0 + code ≡ code = omega arith in rw here at (entry_from e 0 42 code h)
+
+-- in the array of its edition
+pub array_below : (e : Edition) → array_of e < 2
+array_below June = omega arith
+array_below September = omega arith
+
+pub table_at : (e : Edition) (code : ℕ) (others : List Entry) → code < 42
+    → get_or (get_or (entries June ∷ entries September ∷ []) (array_of e) others) code (record { 0 = 0 }) ≡ entry_of e code
+table_at June code others h = entry_at June code h
+table_at September code others h = entry_at September code h
 
 -- a command that is none of 1 to 41 has no row
 abbrev in_range : List Row → Bool

@@ -2,7 +2,7 @@
 ghost use Rattle.std.specs.Prelude.{◌≡◌, true, ◌<◌};
 ghost use Rattle.rules.specs.Edition.{code_for, holds};
 ghost use Rattle.rules.specs.Command.{row_of, meaning};
-ghost use Rattle.command.specs.Inner.Codes.{entry_of};
+ghost use Rattle.command.specs.Inner.Codes.{array_of, entry_of};
 
 use crate::meaning::meaning_of;
 use crate::number::*;
@@ -106,21 +106,22 @@ const CODES: [[Entry; 42]; 2] = [
     ],
 ];
 
-// Each array is named by a constant: the compiler reads one entry where an array found by its number would be copied.
+// Which of the two arrays is an edition's.
+fn array_of(edition: Edition) -> usize
+    ensures { result ≡ array_of edition }
+{
+    match edition {
+        Edition::June => 0,
+        Edition::September => 1,
+    }
+}
+
 fn entry_of(edition: Edition, code: u8) -> Entry
     requires { code < 42 }
     ensures { result ≡ entry_of edition code }
 {
-    match edition {
-        Edition::June => {
-            let june = CODES[0];
-            june[code as usize]
-        }
-        Edition::September => {
-            let september = CODES[1];
-            september[code as usize]
-        }
-    }
+    let entries = CODES[array_of(edition)];
+    entries[code as usize]
 }
 
 pub fn command_of(edition: Edition, code: u8) -> Code

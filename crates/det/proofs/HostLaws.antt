@@ -179,19 +179,11 @@ module _ (f : Frame) (r : Reader) (lf : Bool) (b : Screen) (reply : List ℕ) (a
   told_answerable a = answerable (fresh_with lf) (fresh_prints lf) a
 
   pub told_turns : {done : Applied} {b' : Screen} {reply' : List ℕ} → Applies tells_effect b reply at done b' reply'
-      → ((from < t.next) × (done.formatted ≡ false → b'.attrs ≡ b.attrs))
+      → (from < t.next)
       × Turns f r lf b input from reply at
-      (record {
-        frame = done.frame;
-        reader = t.reader;
-        event = t.event;
-        end = t.next;
-        written = done.written;
-        formatted = done.formatted;
-      })
-      b' reply'
+      (record { frame = done.frame; reader = t.reader; event = t.event; end = t.next; written = done.written }) b' reply'
   told_turns h =
-      ((omega (arith, (k.quiet f (fresh_with lf) b).onward, k.next), h.unformatted), λ p prints a. taking p prints a h)
+      (omega (arith, (k.quiet f (fresh_with lf) b).onward, k.next), λ p prints a. taking p prints a h)
 
 -- ---- a stretch, and what is told after it
 

@@ -1,7 +1,7 @@
 -- Laws of one key: its refusals, and what the decision on it does.
 use mathlib.Core.Path.{◌≡◌, refl, sym, ap, ◌∙◌}
 use mathlib.Core.Bool.{Bool, true, false}
-use mathlib.Core.List.{List, [], ◌∷◌, append-nil}
+use mathlib.Core.List.{List, append-nil}
 use Prim.Native.Nat.{ℕ, ◌≤◌}
 use native.Mathlib.Nat.{zero-add}
 use native.Mathlib.Omega.{arith}
@@ -14,7 +14,7 @@ use Rattle.rules.specs.declared.Key.TheVariants.{Typed, Back, Tab, Send, Delete,
 use Rattle.rules.specs.declared.Frame.{Frame}
 use Rattle.rules.specs.declared.Pad.{Pad}
 use Rattle.rules.specs.Session.{State, View, session, screen, view, view_of}
-use Rattle.rules.specs.Refusal.{verdict_test, is_taken, verdict, size_tests, state_tests}
+use Rattle.rules.specs.Refusal.{is_taken, verdict, size_tests, state_tests}
 use Rattle.rules.specs.Effect.{Effect, changed_all, cleared, marks_after, spelled, spelled_all}
 use Rattle.rules.specs.Cursor.{cursor_guarded}
 use Rattle.rules.specs.Telnet.{host_text}
@@ -22,8 +22,7 @@ use Rattle.rules.specs.Pad.{takes_key, line_tests, pad_typed, sent_at, echoed_at
 use Rattle.rules.specs.Subcommand.{transmitted}
 use Rattle.rules.specs.Key.{key_of, key_tests, pressed}
 use Rattle.rules.specs.Operation.{outcome, host_refusal, press_tests, press_effect, key_refusal}
-use Rattle.rules.specs.Call.{host, key}
-use Rattle.rules.specs.Listed.{refusal_with}
+use Rattle.rules.specs.Call.{key}
 use Rattle.rules.proofs.Sound.{Accepted, sound_of, passes}
 use Rattle.rules.proofs.Room.{room_key}
 use Rattle.decide.specs.declared.decision.Decision.{Decision}
@@ -40,33 +39,21 @@ use Rattle.words.proofs.Laws.{either}
 use Rattle.words.specs.Stored.{Emitted}
 use Rattle.words.proofs.StoredLaws.{emitted_whole}
 use Rattle.text.proofs.TextLaws.{text_keeps, text_marks}
-use Rattle.rules.proofs.Refusals.{passed_on, failed_first}
-use Rattle.rules.proofs.Listed.{test_call, test_out}
+use Rattle.admit.proofs.RefuseLaws.{passed_on, failed_first}
 use Rattle.decide.proofs.DecideLaws.{fits_rule}
 use Rattle.decide.proofs.WriteLaws.{pressed_was}
 use Rattle.det.proofs.TakeLaws.{accepts_fits, sayable}
 use Rattle.det.proofs.ApplyLaws.{marking_of_lem}
 
 -- the refusal of a key: of every call, or else its own
-module _ (s : State) (reply : List ℕ) (code : ℕ) (listed : Refusal) {why : Refusal} (e : why ≡ refusal_with (verdict_test listed ∷ []) s (host [] reply)) where
-  pub refused_first : is_taken why ≡ false → why ≡ refusal_with (verdict_test listed ∷ []) s (key code reply)
+module _ (s : State) (reply : List ℕ) (code : ℕ) {why : Refusal} (e : why ≡ host_refusal s reply) where
+  pub refused_first : is_taken why ≡ false → why ≡ key_refusal s reply code
   unfolding size_tests
   refused_first h = e ∙ sym (failed_first _ _ (rw e at h))
 
-  pub refused_last : {r : Refusal} → why ≡ Taken → r ≡ verdict (press_tests s code) → r ≡ refusal_with (verdict_test listed ∷ []) s (key code reply)
+  pub refused_last : {r : Refusal} → why ≡ Taken → r ≡ verdict (press_tests s code) → r ≡ key_refusal s reply code
   unfolding size_tests state_tests
-  refused_last t h =
-      let c = host [] reply in
-      let passed = test_call listed s c (ap is_taken (sym e ∙ t)) in
-      rw (test_out listed s (key code reply) passed, passed_on _ _ refl (sym (test_out listed s c passed) ∙ sym e ∙ t)) h
-
--- a key that is taken would be without a list too
-pub key_passed : (s : State) (reply : List ℕ) (code : ℕ) (listed : Refusal) {why : Refusal}
-    → why ≡ refusal_with (verdict_test listed ∷ []) s (key code reply) → why ≡ Taken → key_refusal s reply code ≡ Taken
-unfolding size_tests state_tests
-key_passed s reply code listed e t =
-    let c = key code reply in
-    sym (test_out listed s c (test_call listed s c (ap is_taken (sym e ∙ t)))) ∙ sym e ∙ t
+  refused_last t h = rw (passed_on _ _ refl (sym e ∙ t)) h
 
 -- its own refusals: the edit line's, or those of its meaning
 module _ (s : State) (code : ℕ) where

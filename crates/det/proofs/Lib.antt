@@ -4,3 +4,4 @@ pub mod TakeLaws
 pub mod HostLaws
 pub mod MessageLaws
 pub mod KeyLaws
+pub mod Noninterference

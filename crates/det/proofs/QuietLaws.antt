@@ -156,7 +156,7 @@ module _ (input : List ℕ) (from : ℕ) (p : Phase) where
 -- a turn that ends with a stretch
 abbrev turn : Stretch → Frame → Held → Bool → ℕ → Turn
 turn t f held cr at =
-    record { frame = f; reader = record { phase = t.phase; held = held; cr = cr }; event = Nothing; end = t.next; written = at; formatted = false }
+    record { frame = f; reader = record { phase = t.phase; held = held; cr = cr }; event = Nothing; end = t.next; written = at }
 
 -- after the stretch the reader stands in no message of option 30, if it stood in none before
 outside_after : (p : Phase) (bytes : List ℕ) (from : ℕ) → in_message p ≡ false → in_message (read_of p 255).phase ≡ false

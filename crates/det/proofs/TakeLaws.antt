@@ -21,16 +21,14 @@ use Rattle.rules.specs.declared.Pad.{Pad}
 use Rattle.rules.specs.declared.Refusal.{Refusal}
 use Rattle.rules.specs.declared.Refusal.TheVariants.{Taken}
 use Rattle.rules.specs.Session.{Screen, State, View, line_takes_keys, reply_room, session, screen, state, view, view_of}
-use Rattle.rules.specs.Refusal.{verdict_test, is_taken, size_tests, state_tests}
+use Rattle.rules.specs.Refusal.{is_taken}
 use Rattle.rules.specs.Effect.{Effect, changed_all, marks_after, spelled_all, changing, quiet}
 use Rattle.rules.specs.Telnet.{held_after, cr_after, host_data}
 use Rattle.rules.specs.Pad.{is_x3, pad_after, response, passes}
 use Rattle.rules.specs.Operation.{applied, happening, host_byte, host_refusal}
 use Rattle.rules.specs.Call.{host}
-use Rattle.rules.specs.Listed.{refusal_with}
 use Rattle.rules.proofs.Sound.{Accepted, sound_of}
 use Rattle.rules.proofs.Room.{room_byte}
-use Rattle.rules.proofs.Listed.{test_call, test_out}
 use Rattle.decide.specs.declared.decision.Decision.{Decision}
 use Rattle.decide.specs.declared.decision.Say.{Say}
 use Rattle.det.specs.declared.apply.Applied.{Applied}
@@ -70,7 +68,6 @@ module _ {e : Effect} {f : Frame} {b : Screen} {reply : List ℕ} {at : ℕ} (a 
       record {
         changes = record { frame = r.changes.frame; characters = r.changes.characters };
         attributes = r.attributes;
-        unformatted = r.unformatted;
         marks = r.marks;
         replies = r.replies;
       }
@@ -135,7 +132,7 @@ module _ (f : Frame) (lf cr : Bool) (byte : ℕ) {chars attrs : List ℕ} where
 
 pub data_applies : (f : Frame) (lf cr : Bool) (byte : ℕ) {f' : Frame} {b : Screen} {chars reply : List ℕ} {at : ℕ}
     → Changes (data_effect (view f b.attrs) lf cr byte) b.chars b.attrs f' chars
-    → Applies (data_effect (view f b.attrs) lf cr byte) b reply at (record { frame = f'; written = at; formatted = false })
+    → Applies (data_effect (view f b.attrs) lf cr byte) b reply at (record { frame = f'; written = at })
     (screen chars b.attrs b.marks) reply
 unfolding spelled_all marks_after
 data_applies f lf cr byte {b = b} k =
@@ -143,7 +140,6 @@ data_applies f lf cr byte {b = b} k =
     record {
       changes = k;
       attributes = ap (λ (e : Effect). e.view.attrs) (sym only);
-      unformatted = λ f. refl;
       marks = rw (ap (λ (e : Effect). e.marking) only);
       replies = rw (ap (λ (e : Effect). e.reply) only) emitted_none;
     }
@@ -151,12 +147,8 @@ data_applies f lf cr byte {b = b} k =
 -- ---- a byte that is taken
 
 -- what a call that is not refused finds
-pub accepts_start : (s : State) (input reply : List ℕ) (listed : Refusal) {why : Refusal}
-    → why ≡ refusal_with (verdict_test listed ∷ []) s (host input reply) → why ≡ Taken → Accepts s reply 0
-unfolding size_tests state_tests
-accepts_start s input reply listed e t =
-    let c = host input reply in
-    sym (test_out listed s c (test_call listed s c (ap is_taken (sym e ∙ t)))) ∙ sym e ∙ t
+pub accepts_start : (s : State) (reply : List ℕ) {why : Refusal} → why ≡ host_refusal s reply → why ≡ Taken → Accepts s reply 0
+accepts_start s reply e t = sym e ∙ t
 
 module _ (s : State) (reply : List ℕ) (at : ℕ) (a : Accepts s reply at) where
   -- and what it knows

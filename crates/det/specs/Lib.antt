@@ -1,2 +1,2 @@
-pub mod Hosted
+pub mod Noninterference
 pub mod Inner

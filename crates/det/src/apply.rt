@@ -1,8 +1,7 @@
 // A decision is applied: the reply is written from the characters and marks as they are, then the characters change, then the attribute
 // bytes, then the marks.
-ghost use Rattle.std.specs.Prelude.{◌≡◌, false};
+ghost use Rattle.std.specs.Prelude.{◌≡◌};
 ghost use Rattle.words.specs.Words.{if◌then◌else◌};
-ghost use Rattle.rules.specs.Session.{placed};
 ghost use Rattle.rules.specs.Effect.{changed_all, cleared, marks_after};
 ghost use Rattle.command.specs.Frame.{lent, seen};
 ghost use Rattle.decide.specs.Decision.{edited, attrs_of, meant};
@@ -18,15 +17,12 @@ use decide::decision::{Decision, Edit, Format, Say};
 use edit::range::{erase, fill, shift_range};
 use reply::write_reply;
 use rules::{Edition, Frame};
-use screen::cell::Place;
 use text::data::{put_character, set_cell};
 
-// The frame, where the next reply goes, and whether attribute bytes were written.
 #[derive(Drop)]
 pub struct Applied {
     pub frame: Frame,
     pub written: usize,
-    pub formatted: bool,
 }
 
 // A change other than REPEAT.
@@ -52,9 +48,9 @@ fn change_cells(edit: Edit, chars: &mut [u8], attrs: &[u8])
 }
 
 // 37: a host character so many times.
-fn repeat(frame: Frame, count: u8, byte: u8, chars: &mut [u8], attrs: &[u8]) -> Place
+fn repeat(frame: Frame, count: u8, byte: u8, chars: &mut [u8], attrs: &[u8]) -> Frame
     ensures { Changes (edited (seen frame attrs.entry) (Edit.Repeat count byte))
-        chars.old attrs.now (placed frame result) chars.new }
+        chars.old attrs.now result chars.new }
 {
     let mut cursor = frame.cursor;
     let mut left = count;
@@ -63,32 +59,26 @@ fn repeat(frame: Frame, count: u8, byte: u8, chars: &mut [u8], attrs: &[u8]) -> 
         cursor = put_character(now, byte, chars, attrs);
         left -= 1;
     }
-    cursor
+    moved(frame, cursor)
 }
 
-// The cursor afterwards, all of the frame that an edit changes: REPEAT moves it as it writes.
-pub(crate) fn change_chars(frame: Frame, edit: Edit, chars: &mut [u8], attrs: &[u8]) -> Place
-    ensures { Changes (edited (seen frame attrs.entry) edit) chars.old attrs.now
-        (placed frame result) chars.new }
+// The frame afterwards: REPEAT moves the cursor as it writes.
+pub(crate) fn change_chars(frame: Frame, edit: Edit, chars: &mut [u8], attrs: &[u8]) -> Frame
+    ensures { Changes (edited (seen frame attrs.entry) edit) chars.old attrs.now result chars.new }
 {
     let Edit::Repeat { count, byte } = edit else {
         change_cells(edit, chars, attrs);
-        return frame.cursor;
+        return frame;
     };
     repeat(frame, count, byte, chars, attrs)
 }
 
-// Tells whether it wrote any.
-fn format_attrs(change: Format, attrs: &mut [u8]) -> bool
-    ensures { (attrs.new ≡ attrs_of change attrs.old)
-        × (result ≡ false → attrs.new ≡ attrs.old) }
+fn format_attrs(change: Format, attrs: &mut [u8])
+    ensures { attrs.new ≡ attrs_of change attrs.old }
 {
     match change {
-        Format::Keep => false,
-        Format::Fill { from, end, attr } => {
-            fill(attrs, from, end, attr);
-            true
-        }
+        Format::Keep => {}
+        Format::Fill { from, end, attr } => fill(attrs, from, end, attr),
     }
 }
 
@@ -141,12 +131,11 @@ fn say_any(
     }
 }
 
-fn change_any(frame: Frame, edit: Edit, chars: &mut [u8], attrs: &[u8]) -> Place
-    ensures { Changes (edited (seen frame attrs.entry) edit) chars.old attrs.now
-        (placed frame result) chars.new }
+fn change_any(frame: Frame, edit: Edit, chars: &mut [u8], attrs: &[u8]) -> Frame
+    ensures { Changes (edited (seen frame attrs.entry) edit) chars.old attrs.now result chars.new }
 {
     match edit {
-        Edit::Nothing => frame.cursor,
+        Edit::Nothing => frame,
         _ => {
             let change = edit;
             change_chars(frame, change, chars, attrs)
@@ -172,13 +161,12 @@ pub(crate) fn apply(
     let say = decision.say;
     let next = say_any(edition, say, chars, attrs, marks, reply, at);
     let edit = decision.edit;
-    let cursor = change_any(decided, edit, chars, attrs);
+    let frame = change_any(decided, edit, chars, attrs);
     let format = decision.format;
-    let formatted = format_attrs(format, attrs);
+    format_attrs(format, attrs);
     mark(decision.clear, edit, marks);
     Applied {
-        frame: moved(decided, cursor),
+        frame: frame,
         written: next,
-        formatted: formatted,
     }
 }

@@ -1,20 +1,16 @@
 // Host bytes, and one key. They ask nothing of their caller.
-ghost use Rattle.std.specs.Prelude.{◌≡◌, true, false, List, [], ◌∷◌, ℕ};
+ghost use Rattle.std.specs.Prelude.{◌≡◌, true, false, List, ℕ};
 ghost use Rattle.rules.specs.Session.{session, screen, state};
-ghost use Rattle.rules.specs.Refusal.{verdict_test, verdict};
+ghost use Rattle.rules.specs.Refusal.{verdict};
 ghost use Rattle.rules.specs.Pad.{takes_key};
-ghost use Rattle.rules.specs.Operation.{outcome, press_tests, key_refusal};
-ghost use Rattle.rules.specs.Call.{host, key};
-ghost use Rattle.rules.specs.Listed.{refusal_with, called_with};
+ghost use Rattle.rules.specs.Operation.{outcome, host_bytes, press_tests, key_refusal, one_key};
 ghost use Rattle.command.specs.Frame.{lent};
-ghost use Rattle.det.specs.Hosted.{Unformatted};
 ghost use Rattle.det.specs.Inner.Take.{Accepts, in_message, host_taken, key_taken};
 
 use crate::apply::{change_chars, mark};
 use crate::take::take_turn;
 use admit::open::refused;
 use admit::refuse::{refuse, reply_room};
-use command::frame::moved;
 use command::number::X3;
 use decide::keys::{key_of, press, refuse_pressed};
 use local::message::take_byte;
@@ -37,13 +33,6 @@ fn in_message(phase: Phase) -> bool
     }
 }
 
-// What host bytes answer, and whether attribute bytes were written: whoever keeps a list of the fields writes it anew then.
-#[derive(Drop)]
-pub struct Hosted {
-    pub answer: Answer,
-    pub formatted: bool,
-}
-
 // Host bytes that are not refused: taken from the front while there are any and the reply buffer has room for one more reply.
 fn take_all(
     session: Session,
@@ -52,10 +41,9 @@ fn take_all(
     attrs: &mut [u8],
     marks: &mut [u8],
     reply: &mut [u8],
-) -> Hosted
+) -> Answer
     requires { Accepts (state session (lent chars attrs marks)) reply.old 0 }
-    ensures attrs_unchanged { result.formatted ≡ false → attrs.new ≡ attrs.old }
-    ensures reply_after { outcome result.answer (lent chars.exit attrs.exit marks.exit) reply.new
+    ensures { outcome result (lent chars.exit attrs.exit marks.exit) reply.new
         ≡ host_taken (state session (lent chars.entry attrs.entry marks.entry)) reply.old input.now }
 {
     let room = reply_room(session.frame);
@@ -65,7 +53,6 @@ fn take_all(
     let mut taken = 0;
     let mut written = 0;
     let mut lf = prints_lf(session.pad.values);
-    let mut formatted = false;
     while taken < input.len() {
         if reply.len() - written < room {
             break;
@@ -87,9 +74,6 @@ fn take_all(
         );
         taken = turn.end;
         written = turn.written;
-        if turn.formatted {
-            formatted = true;
-        }
         reader = turn.reader;
         let event = turn.event;
         let other = ends_other(event);
@@ -101,18 +85,15 @@ fn take_all(
         }
         frame = turn.frame;
     }
-    Hosted {
-        answer: Answer {
-            session: Session {
-                frame: frame,
-                reader: reader,
-                pad: pad,
-            },
-            refusal: Refusal::Taken,
-            taken: taken,
-            written: written,
+    Answer {
+        session: Session {
+            frame: frame,
+            reader: reader,
+            pad: pad,
         },
-        formatted: formatted,
+        refusal: Refusal::Taken,
+        taken: taken,
+        written: written,
     }
 }
 
@@ -130,20 +111,18 @@ fn refuse_press(session: Session, code: u8, attrs: &[u8]) -> Refusal
     refuse_pressed(session.frame, attrs, meaning)
 }
 
-// The refusals of every call, then the key's own.
+// Refusals 1 to 5 and 11, then the key's own.
 fn refuse_key(
     session: Session,
     code: u8,
     chars: &[u8],
     attrs: &[u8],
     marks: &[u8],
-    listed: Refusal,
     reply: &[u8],
 ) -> Refusal
-    ensures { result ≡ refusal_with (verdict_test listed ∷ []) (state session (lent chars.entry attrs.entry marks.entry))
-        (key code reply.now) }
+    ensures { result ≡ key_refusal (state session (lent chars.entry attrs.entry marks.entry)) reply.now code }
 {
-    let why = refuse(session, chars, attrs, marks, listed, reply);
+    let why = refuse(session, chars, attrs, marks, reply);
     let Refusal::Taken = why else {
         return why;
     };
@@ -184,10 +163,10 @@ fn take_meaning(
     let say = decision.say;
     let written = write_reply(edition, say, chars, attrs, marks, reply, 0);
     let edit = decision.edit;
-    let cursor = change_chars(decided, edit, chars, attrs);
+    let frame = change_chars(decided, edit, chars, attrs);
     mark(decision.clear, edit, marks);
     Answer {
-        session: with_frame(session, moved(decided, cursor)),
+        session: with_frame(session, frame),
         refusal: Refusal::Taken,
         taken: 1,
         written: written,
@@ -244,28 +223,21 @@ fn take_key(
     take_meaning(session, code, chars, attrs, marks, reply)
 }
 
-// Bytes from the host. The answer counts those taken from the input's front, and the reply bytes. `listed` is what a list of the fields
-// was found to have, 13 or 14, or that it is taken.
+// Bytes from the host. The answer counts those taken from the input's front, and the reply bytes.
 pub fn host_bytes(
     session: Session,
     input: &[u8],
     chars: &mut [u8],
     attrs: &mut [u8],
     marks: &mut [u8],
-    listed: Refusal,
     reply: &mut [u8],
-) -> Hosted
-    ensures unformatted { Unformatted result attrs.old attrs.new }
-    ensures reply_after { outcome result.answer (lent chars.exit attrs.exit marks.exit) reply.new
-        ≡ called_with (verdict_test listed ∷ []) (state session (lent chars.entry attrs.entry marks.entry))
-        (host input.now reply.old) }
+) -> Answer
+    ensures { outcome result (lent chars.exit attrs.exit marks.exit) reply.new
+        ≡ host_bytes (state session (lent chars.entry attrs.entry marks.entry)) reply.old input.now }
 {
-    let why = refuse(session, chars, attrs, marks, listed, reply);
+    let why = refuse(session, chars, attrs, marks, reply);
     let Refusal::Taken = why else {
-        return Hosted {
-            answer: refused(session, why),
-            formatted: false,
-        };
+        return refused(session, why);
     };
     take_all(session, input, chars, attrs, marks, reply)
 }
@@ -277,14 +249,12 @@ pub fn key(
     chars: &mut [u8],
     attrs: &[u8],
     marks: &mut [u8],
-    listed: Refusal,
     reply: &mut [u8],
 ) -> Answer
     ensures { outcome result (lent chars.exit attrs.entry marks.exit) reply.new
-        ≡ called_with (verdict_test listed ∷ []) (state session (lent chars.entry attrs.entry marks.entry))
-        (key code reply.old) }
+        ≡ one_key (state session (lent chars.entry attrs.entry marks.entry)) reply.old code }
 {
-    let why = refuse_key(session, code, chars, attrs, marks, listed, reply);
+    let why = refuse_key(session, code, chars, attrs, marks, reply);
     let Refusal::Taken = why else {
         return refused(session, why);
     };

@@ -21,8 +21,8 @@ use telnet::ahead::{Ahead, look_ahead};
 use telnet::stretch::{data_at, payload_at};
 use telnet::{Event, Phase, read};
 
-// Where some bytes leave the frame and the reader, what was told last, where they end in the input, where the next reply goes, and
-// whether attribute bytes were written. The PAD is left to the caller, who tells it: it is large, and a turn is short.
+// Where some bytes leave the frame and the reader, what was told last, where they end in the input, and where the next reply goes. The
+// PAD is left to the caller, who tells it: it is large, and a turn is short.
 #[derive(Drop)]
 pub struct Turn {
     pub frame: Frame,
@@ -30,7 +30,6 @@ pub struct Turn {
     pub event: Event,
     pub end: usize,
     pub written: usize,
-    pub formatted: bool,
 }
 
 // What is done on an event other than data that ends no message of option 30.
@@ -75,7 +74,6 @@ fn happen(
             Applied {
                 frame: after,
                 written: at,
-                formatted: false,
             }
         }
         _ => {
@@ -164,7 +162,7 @@ fn take_told(
     requires accepts_turn { AcceptsTurn frame reader lf (lent chars attrs marks) reply.old at }
     requires phase_value { in_message reader.phase ≡ false }
     requires from_in_bounds { from < length input.now }
-    ensures from_lt_end { (from < result.end) × (result.formatted ≡ false → attrs.new ≡ attrs.old) }
+    ensures from_lt_end { from < result.end }
     ensures turns { Turns frame reader lf (lent chars.entry attrs.entry marks.entry) input.now from
         reply.old at result (lent chars.exit attrs.exit marks.exit) reply.new }
 {
@@ -182,7 +180,6 @@ fn take_told(
         event: event,
         end: told.next,
         written: done.written,
-        formatted: done.formatted,
     }
 }
 
@@ -218,7 +215,6 @@ fn take_text(
         event: Event::Nothing,
         end: stretch.next,
         written: at,
-        formatted: false,
     }
 }
 
@@ -251,7 +247,6 @@ fn take_payload(
         event: Event::Nothing,
         end: stretch.next,
         written: at,
-        formatted: false,
     }
 }
 
@@ -281,7 +276,6 @@ fn take_stretch(
             event: Event::Nothing,
             end: from,
             written: at,
-            formatted: false,
         },
     }
 }
@@ -302,7 +296,7 @@ pub(crate) fn take_turn(
     requires accepts_turn { AcceptsTurn frame reader lf (lent chars attrs marks) reply.old at }
     requires phase_value { in_message reader.phase ≡ false }
     requires from_in_bounds { from < length input.now }
-    ensures from_lt_end { (from < result.end) × (result.formatted ≡ false → attrs.new ≡ attrs.old) }
+    ensures from_lt_end { from < result.end }
     ensures turns { Turns frame reader lf (lent chars.entry attrs.entry marks.entry) input.now from
         reply.old at result (lent chars.exit attrs.exit marks.exit) reply.new }
 {

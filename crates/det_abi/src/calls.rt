@@ -11,12 +11,9 @@ use admit::number::number_of;
 use admit::open::open;
 use det::operation::{host_bytes, key};
 use layout::{SESSION_LENGTH, decode, encode, is_session};
-use rules::{Answer, Refusal};
+use rules::Answer;
 
 const NO_SESSION: u8 = 255;
-
-// No screen has more cells: as many records of a list of fields are always enough. These calls are lent none.
-const MOST_CELLS: usize = 8448;
 
 // Writes the answer's session, and returns its number.
 fn tell(answer: Answer, session: &mut [u8]) -> u8
@@ -73,7 +70,7 @@ pub extern "C" fn det_open(
     if session.len() != SESSION_LENGTH {
         return NO_SESSION;
     }
-    let answer = open(width, height, edition, chars, attrs, marks, MOST_CELLS);
+    let answer = open(width, height, edition, chars, attrs, marks);
     tell(answer, session)
 }
 
@@ -97,16 +94,7 @@ pub extern "C" fn det_host(
     if !known {
         return no_session(taken, written);
     }
-    let hosted = host_bytes(
-        decode(session),
-        input,
-        chars,
-        attrs,
-        marks,
-        Refusal::Taken,
-        reply,
-    );
-    let answer = hosted.answer;
+    let answer = host_bytes(decode(session), input, chars, attrs, marks, reply);
     give(answer, session, taken, written)
 }
 
@@ -130,14 +118,6 @@ pub extern "C" fn det_key(
     if !known {
         return no_session(taken, written);
     }
-    let answer = key(
-        decode(session),
-        key_byte(code),
-        chars,
-        attrs,
-        marks,
-        Refusal::Taken,
-        reply,
-    );
+    let answer = key(decode(session), key_byte(code), chars, attrs, marks, reply);
     give(answer, session, taken, written)
 }

@@ -3,11 +3,11 @@ use mathlib.Core.Path.{◌≡◌, refl}
 use mathlib.Core.Bool.{true, false}
 use mathlib.Core.List.{List, [], ◌∷◌, ◌++◌}
 use Prim.Native.Nat.{ℕ}
-use lib.ListN.{length, replicate}
+use lib.ListN.{replicate}
 use Rattle.screen.specs.Words.{first_of, last_of}
 use Rattle.screen.specs.Attributes.{protected_at}
 use Rattle.screen.specs.Fields.{starts_at, opens_at, field_start, field_end}
-use Rattle.screen.specs.FieldList.{unused, fields_from, fields_of, agrees_from, too_few, agrees, opens_before, found_by_reading, found_from, found_by_list}
+use Rattle.screen.specs.FieldList.{unused, fields_from, fields_of, agrees_from, too_short, agrees, opens_before, found_by_reading, found_from, found_by_list}
 use Rattle.screen.specs.declared.record.FieldRecord.{FieldRecord}
 use Rattle.screen.specs.declared.record.Found.TheVariants.{In, InNone}
 
@@ -30,8 +30,8 @@ pub record Worked : Type 0 where
   pub blank : fields_of 16 (replicate 16 0) ≡ field 0 16 ∷ replicate 15 unused
   -- longer lists are zeros to their end; fifteen records are too few; an unused record that is not zeros disagrees
   pub longer : agrees (list_f ++ (unused ∷ [])) form_f ≡ true
-  pub fewer : too_few (length (replicate 15 unused)) 16 ≡ true
-  pub enough : too_few (length list_f) 16 ≡ false
+  pub fewer : too_short (replicate 15 unused) 16 ≡ true
+  pub enough : too_short list_f 16 ≡ false
   pub stale : agrees (field 0 16 ∷ (replicate 14 unused ++ (field 3 3 ∷ []))) (replicate 16 0) ≡ false
   -- at (3,0) and (6,1) in a field, by its number among the unprotected ones; at (6,0) in none
   pub first : (found_by_list list_f form_f 3 ≡ In 1 (field 3 3)) × (found_by_reading form_f 3 ≡ In 1 (field 3 3))

@@ -1,4 +1,3 @@
-pub mod Outcomes
 pub mod Records
 pub mod Scans
 pub mod Starts

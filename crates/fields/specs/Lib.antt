@@ -1,3 +1,2 @@
-pub mod Noninterference
 pub mod Rebuilt
 pub mod Inner

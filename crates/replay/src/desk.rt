@@ -2,7 +2,7 @@
 use crate::number::least;
 use crate::order::{Call, Order, Setting, Switch};
 use det::operation::{host_bytes, key};
-use rules::{Answer, Frame, Pad, Reader, Refusal, Session};
+use rules::{Answer, Frame, Pad, Reader, Session};
 
 // What stands in a buffer before its first call.
 const CHAR: u8 = 0x2a;
@@ -12,9 +12,6 @@ const ATTR: u8 = 0x11;
 const MARK: u8 = 1;
 
 const REPLY: u8 = 0xa5;
-
-// No screen has more cells: as many records of a list of fields are always enough. The calls here are lent none.
-const MOST_CELLS: usize = 8448;
 
 // The last call's answer, whose session is the one in use, and the lengths of the buffers: no reply buffer for `open`.
 #[derive(Drop)]
@@ -47,7 +44,7 @@ fn copy(from: &[u8], to: &mut [u8], length: usize) {
 
 // Before the first order: as after an `open` that is refused, with empty buffers.
 pub(crate) fn fresh(chars: &mut [u8], attrs: &mut [u8], marks: &mut [u8]) -> Desk {
-    let answer = admit::open::open(0, 0, 0, chars, attrs, marks, MOST_CELLS);
+    let answer = admit::open::open(0, 0, 0, chars, attrs, marks);
     Desk {
         answer: answer,
         chars: 0,
@@ -71,12 +68,9 @@ fn made(
             width,
             height,
             edition,
-        } => admit::open::open(width, height, edition, chars, attrs, marks, MOST_CELLS),
-        Call::Host => {
-            let hosted = host_bytes(session, input, chars, attrs, marks, Refusal::Taken, reply);
-            hosted.answer
-        }
-        Call::Key(code) => key(session, code, chars, attrs, marks, Refusal::Taken, reply),
+        } => admit::open::open(width, height, edition, chars, attrs, marks),
+        Call::Host => host_bytes(session, input, chars, attrs, marks, reply),
+        Call::Key(code) => key(session, code, chars, attrs, marks, reply),
     }
 }
 

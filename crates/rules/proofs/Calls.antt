@@ -11,7 +11,7 @@ use Rattle.rules.specs.declared.Refusal.TheVariants.{Taken}
 use Rattle.rules.specs.Session.{State}
 use Rattle.rules.specs.Refusal.{is_taken}
 use Rattle.rules.specs.Operation.{Ran, Outcome, running, refusing, answering, unless, taken_of, host_refusal, host_ran, host_bytes, key_refusal, key_ran, one_key}
-use Rattle.rules.specs.Call.{Call, host, key, reply_of, called, left}
+use Rattle.rules.specs.Call.{Call, host, key, called, left}
 -- the sentences of document 01 are checked first, so that a wrong rule is refused there
 use Rattle.rules.proofs.Causes.{nothing_else}
 
@@ -29,7 +29,11 @@ taken_ran s reply input e = rw e (refl, take-append_seam _ _)
 
 -- ---- one law for both kinds of call
 
--- a call's refusal, how much it takes, and what that does
+-- the reply buffer that a call lends, its refusal, how much it takes, and what that does
+abbrev pub reply_of : Call → List ℕ
+reply_of (host input reply) = reply
+reply_of (key code reply) = reply
+
 abbrev pub refusal_by : State → Call → Refusal
 refusal_by s (host input reply) = host_refusal s reply
 refusal_by s (key code reply) = key_refusal s reply code

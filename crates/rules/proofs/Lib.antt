@@ -7,7 +7,6 @@ pub mod Agreed
 pub mod Lines
 pub mod Touched
 pub mod June
-pub mod FieldLists
 pub mod All
 pub mod Rows
 pub mod Editions
@@ -30,6 +29,5 @@ pub mod Room
 pub mod Running
 pub mod Safe
 pub mod SafeEffects
-pub mod Listed
 pub mod Noninterference
 pub mod Needed

@@ -7,27 +7,23 @@ use native.Mathlib.Omega.{arith}
 use lib.Dec.{leb}
 use lib.ListN.{length, get_or, take}
 use Rattle.screen.specs.Attributes.{protected_at}
-use Rattle.screen.specs.declared.record.FieldRecord.{FieldRecord}
-use Rattle.words.specs.Words.{if◌then◌else◌}
 use Rattle.words.proofs.Laws.{either, true_or_false, and_left, and_right, both, get_d-within}
 use Rattle.rules.specs.declared.Reader.{Reader}
 use Rattle.rules.specs.declared.Pad.{Pad}
 use Rattle.rules.specs.declared.Refusal.{Refusal}
 use Rattle.rules.specs.declared.Session.{Session}
 use Rattle.rules.specs.Session.{State, printable, all_printable, reply_room, screen, state, view_of}
-use Rattle.rules.specs.Refusal.{Test, is_taken, size_tests, state_tests}
+use Rattle.rules.specs.Refusal.{is_taken, size_tests, state_tests}
 use Rattle.rules.specs.Effect.{Effect, Executed, changed_all, marks_after}
 use Rattle.rules.specs.Command.{reaches_past}
 use Rattle.rules.specs.Cursor.{cursor_guarded}
 use Rattle.rules.specs.Pad.{takes_key}
 use Rattle.rules.specs.Key.{key_of, needs_of, given, key_tests}
 use Rattle.rules.specs.Operation.{Ran, Outcome, host_byte, applied, running, answering, unless, taken_of, host_bytes, press_effect, key_refusal, one_key}
-use Rattle.rules.specs.Call.{Call, host, key, reply_of, called, left, Answered, answered, answers_of, state_after, executed_by, executed_of}
-use Rattle.rules.specs.Listed.{Listed, listed, refusal_with, called_with, listing, called_listed, left_listed, answers_listed, listed_after, executed_by_listed, executed_listed}
-use Rattle.rules.specs.Noninterference.{none_reaches, Kept, Indistinct, Noninterference, NoninterferenceListed}
+use Rattle.rules.specs.Call.{Call, host, key, called, left, answered, answers_of, state_after, executed_by, executed_of}
+use Rattle.rules.specs.Noninterference.{none_reaches, Kept, Noninterference}
 use Rattle.rules.proofs.Characters.{printable_at}
 use Rattle.rules.proofs.Refusals.{all_pass}
-use Rattle.rules.proofs.Listed.{list_same}
 use Rattle.rules.proofs.Safe.{Twins, still_twins, same_reply}
 use Rattle.rules.proofs.SafeEffects.{SafeEffect, safe_happening, safe_key, safe_typed}
 
@@ -124,15 +120,14 @@ module _ (attrs c₀ d₀ : List ℕ) where
 
   -- ---- a call
 
-  answering_twins : {n m : ℕ} {f g : Ran} (reply : List ℕ) → TwinRuns n m f g → TwinOutcomes (answering n f reply) (answering m g reply)
-  answering_twins reply o = record { answers = rw (o.taken, o.replies, (parts o.states).0); states = o.states }
-
   -- refused, or else done
-  unless_twins : {s t : State} {o q : Outcome} (r : Refusal) (reply : List ℕ) → TwinStates s t → (is_taken r ≡ true → TwinOutcomes o q)
-      → TwinOutcomes (unless r s reply o) (unless r t reply q)
+  unless_twins : {s t : State} {n m : ℕ} {f g : Ran} (r : Refusal) (reply : List ℕ) → TwinStates s t → (is_taken r ≡ true → TwinRuns n m f g)
+      → TwinOutcomes (unless r s reply (answering n f reply)) (unless r t reply (answering m g reply))
   unfolding unless
   unless_twins r reply start done =
-      true_or_false (is_taken r) (λ e. rw e (done e)) (λ e. rw e (record { answers = rw (parts start).0; states = start }))
+      true_or_false (is_taken r)
+      (λ e. let o = done e in rw e (record { answers = rw (o.taken, o.replies, (parts o.states).0); states = o.states }))
+      (λ e. rw e (record { answers = rw (parts start).0; states = start }))
 
   module _ (clean_first : all_printable c₀ ≡ true) (clean_second : all_printable d₀ ≡ true) where
     clean_twins : (c d : List ℕ) → Twins attrs c₀ d₀ c d → all_printable c ≡ all_printable d
@@ -143,33 +138,21 @@ module _ (attrs c₀ d₀ : List ℕ) where
         (λ u. ap printable (w.alike.unprotected i h u)))
 
     -- a call is refused in both runs or in neither
-    same_tests : {s t : State} → TwinStates s t
+    same_tests : {s t : State} (reply : List ℕ) → TwinStates s t
         → (size_tests t.session.frame t.screen ≡ size_tests s.session.frame s.screen)
-        × (all_printable t.screen.chars ≡ all_printable s.screen.chars)
-    unfolding size_tests
-    same_tests (twins s now marks c d a p w) = (rw w.alike.long, sym (clean_twins c d w))
+        × (state_tests t.session t.screen reply ≡ state_tests s.session s.screen reply)
+    unfolding size_tests state_tests
+    same_tests reply (twins s now marks c d a p w) = (rw w.alike.long, rw (clean_twins c d w))
 
     called_twins : (k : Call) {s t : State} → TwinStates s t → none_reaches (executed_by s k) ≡ true → TwinOutcomes (called s k) (called t k)
-    unfolding called executed_by host_bytes one_key state_tests
-    called_twins (host input reply) (twins s now marks c d a p w) x =
-        let start = twins s now marks c d a p w in
-        let e = same_tests start in
-        rw (e.0, e.1) (unless_twins _ reply start (λ r. answering_twins reply (taking_twins input (length reply) start (rw r at x))))
+    unfolding called executed_by host_bytes one_key
+    called_twins (host input reply) start x =
+        let e = same_tests reply start in
+        rw (e.0, e.1) (unless_twins _ reply start (λ r. taking_twins input (length reply) start (rw r at x)))
     called_twins (key k reply) (twins s now marks c d a p w) x =
         let start = twins s now marks c d a p w in
-        let e = same_tests start in
-        rw (e.0, e.1) (unless_twins _ reply start (λ r. answering_twins reply (applied_twins start (safe_press _ reply k p r))))
-
-    -- with the same tests of a list
-    same_refusal : (ts : List Test) (k : Call) {s t : State} → TwinStates s t → refusal_with ts t k ≡ refusal_with ts s k
-    same_refusal ts (host input reply) (twins s now marks c d a p w) = let e = same_tests (twins s now marks c d a p w) in rw (e.0, e.1)
-    same_refusal ts (key k reply) (twins s now marks c d a p w) = let e = same_tests (twins s now marks c d a p w) in rw (e.0, e.1)
-
-    with_twins : (ts : List Test) (k : Call) {s t : State} → TwinStates s t
-        → none_reaches (if is_taken (refusal_with ts s k) then executed_by s k else []) ≡ true → TwinOutcomes (called_with ts s k) (called_with ts t k)
-    unfolding called_with
-    with_twins ts k {s} start x =
-        rw (same_refusal ts k start) (unless_twins (refusal_with ts s k) (reply_of k) start (λ r. called_twins k start (rw r at x)))
+        let e = same_tests reply start in
+        rw (e.0, e.1) (unless_twins _ reply start (λ r. applied_twins start (safe_press _ reply k p r)))
 
     -- ---- a list of calls
 
@@ -183,40 +166,12 @@ module _ (attrs c₀ d₀ : List ℕ) where
         let rest = calls_twins ks one.states none.1 in
         (ap₂ ◌∷◌ one.answers rest.0, rest.1)
 
-    -- two runs with a list, from x and from y on
-    record TwinListed (list : List FieldRecord) (x y : Listed) (ks : List Call) : Type 0 where
-      answers : answers_listed x ks ≡ answers_listed y ks
-      states : TwinStates (listed_after x ks).state (listed_after y ks).state
-      first : (listed_after x ks).list ≡ list
-      second : (listed_after y ks).list ≡ list
-
-    -- the list stays, since no attribute byte changes
-    listed_twins : (ks : List Call) (list : List FieldRecord) {s t : State} → TwinStates s t
-        → none_reaches (executed_listed (listed s list) ks) ≡ true → TwinListed list (listed s list) (listed t list) ks
-    unfolding answers_listed listed_after executed_listed executed_by_listed called_listed
-    listed_twins [] list start x = record { answers = refl; states = start; first = refl; second = refl }
-    listed_twins (k ∷ ks) list (twins s now marks c d a p w) x =
-        let start = twins s now marks c d a p w in
-        let before = listed (state s (screen c now marks)) list in
-        let other = listed (state s (screen d now marks)) list in
-        let none = none_append (executed_by_listed before k) _ x in
-        let one = with_twins (listing before) k start none.0 in
-        let e = parts one.states in
-        let f = list_same before k (e.1 ∙ sym a) in
-        let g = list_same other k (e.2 ∙ sym a) in
-        let after = left (called_with (listing before) before.state k) in
-        let beside = left (called_with (listing before) other.state k) in
-        let next : left_listed (called_listed before k) ≡ listed after list = ap (λ l. listed after l) f in
-        let also : left_listed (called_listed other k) ≡ listed beside list = ap (λ l. listed beside l) g in
-        let rest : TwinListed list (left_listed (called_listed before k)) (left_listed (called_listed other k)) ks =
-        rw (next, also) (listed_twins ks list one.states (rw next at none.1)) in
-        record { answers = ap₂ ◌∷◌ one.answers rest.answers; states = rest.states; first = rest.first; second = rest.second }
-
-ended : (attrs c d : List ℕ) {a b : List Answered} {s t : State} → a ≡ b → TwinStates attrs c d s t → Indistinct attrs c d a b s t
-ended attrs c d answers states =
-    let end = parts attrs c d states in
+pub noninterference : Noninterference
+noninterference s attrs marks c d calls protecting clean_first clean_second alike none =
+    let run = calls_twins attrs c d clean_first clean_second calls (twins s attrs marks c d refl protecting (search)) none in
+    let end = parts attrs c d run.1 in
     record {
-      answers = answers;
+      answers = run.0;
       sessions = end.0;
       attributes_first = end.1;
       attributes_second = end.2;
@@ -225,13 +180,3 @@ ended attrs c d answers states =
       kept_first = end.4.first;
       kept_second = end.4.second;
     }
-
-pub noninterference : Noninterference
-noninterference s attrs marks c d calls protecting clean_first clean_second alike none =
-    let run = calls_twins attrs c d clean_first clean_second calls (twins s attrs marks c d refl protecting (search)) none in
-    ended attrs c d run.0 run.1
-
-pub noninterference_listed : NoninterferenceListed
-noninterference_listed s attrs marks list c d calls protecting clean_first clean_second alike none =
-    let run = listed_twins attrs c d clean_first clean_second calls list (twins s attrs marks c d refl protecting (search)) none in
-    (ended attrs c d run.answers run.states, run.first, run.second)

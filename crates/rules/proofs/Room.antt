@@ -14,10 +14,10 @@ use Rattle.rules.specs.declared.Refusal.TheVariants.{Taken}
 use Rattle.rules.specs.Session.{State, reply_room, fresh_frame}
 use Rattle.rules.specs.Refusal.{is_taken}
 use Rattle.rules.specs.Operation.{Outcome, host_byte, running, unless, taken_of, host_refusal, host_bytes, key_ran}
-use Rattle.rules.specs.Call.{Call, host, key, reply_of, called}
+use Rattle.rules.specs.Call.{Call, host, key, called}
 use Rattle.rules.specs.Cases.Computing.{computing}
 use Rattle.rules.specs.Cases.Vocabulary.{starting}
-use Rattle.rules.proofs.Calls.{taken_by, ran_by, called_cases}
+use Rattle.rules.proofs.Calls.{reply_of, taken_by, ran_by, called_cases}
 use Rattle.rules.proofs.Effects.{keeps_happening, keeps_key}
 use Rattle.rules.proofs.Sound.{Sound, sound_byte, Accepted, sound_of}
 

@@ -21,9 +21,9 @@ use Rattle.rules.specs.Edition.{edition_of}
 use Rattle.rules.specs.Refusal.{is_taken, Test, verdict, size_test, buffer_test, open_tests, size_tests, state_tests}
 use Rattle.rules.specs.Telnet.{holding, held_after}
 use Rattle.rules.specs.Operation.{Outcome, host_byte, running, unless, host_refusal, host_bytes, press_tests, key_ran, one_key, opened}
-use Rattle.rules.specs.Call.{Call, host, key, reply_of, called, left, state_after}
+use Rattle.rules.specs.Call.{Call, host, key, called, left, state_after}
 use Rattle.rules.proofs.Refusals.{asked}
-use Rattle.rules.proofs.Calls.{refusal_by, ran_by, called_cases}
+use Rattle.rules.proofs.Calls.{reply_of, refusal_by, ran_by, called_cases}
 use Rattle.rules.proofs.Characters.{Text}
 use Rattle.rules.proofs.Marks.{Marks, still_marks, no_marks}
 use Rattle.rules.proofs.Views.{SoundView}

@@ -11,11 +11,6 @@ pub data Call : Type 0 where
   host : List ℕ → List ℕ → Call  -- the input, the reply buffer
   key : ℕ → List ℕ → Call  -- the key, the reply buffer
 
--- the reply buffer that a call lends
-abbrev pub reply_of : Call → List ℕ
-reply_of (host input reply) = reply
-reply_of (key k reply) = reply
-
 unfoldable pub called : State → Call → Outcome
 called s (host input reply) = host_bytes s reply input
 called s (key k reply) = one_key s reply k

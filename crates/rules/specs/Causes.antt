@@ -20,7 +20,6 @@ use Rattle.rules.specs.Command.{code_in}
 use Rattle.rules.specs.Subcommand.{subcommand}
 use Rattle.rules.specs.Operation.{host_byte}
 use Rattle.rules.specs.Call.{Call, host, key, called, left}
-use Rattle.rules.specs.Listed.{Listed, called_listed}
 use Rattle.rules.specs.Executed.{one_of}
 
 -- ---- what may change
@@ -213,10 +212,6 @@ none_changes a (c ∷ cs) = not (may_change a c) && none_changes a cs
 
 abbrev pub NothingElse : Type 0
 NothingElse = (a : Aspect) (s : State) (c : Call) → none_changes a (causes_of s c) ≡ true → Same a s (left (called s c))
-
--- request (vii): nor does anything else change a record of the list, an unused one too, than what changes an attribute byte
-abbrev pub ListKept : Type 0
-ListKept = (x : Listed) (c : Call) → none_changes attributes (causes_of x.state c) ≡ true → (called_listed x c).list ≡ x.list
 
 -- nothing changes the edition (request (vi))
 abbrev pub EditionKept : Type 0

@@ -12,7 +12,6 @@ pub mod Subcommand
 pub mod Key
 pub mod Operation
 pub mod Call
-pub mod Listed
 pub mod Noninterference
 pub mod Executed
 pub mod Causes

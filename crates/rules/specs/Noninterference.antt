@@ -1,13 +1,11 @@
 -- Demand 3, noninterference: two sessions that differ in protected characters alone cannot be told apart.
 use Rattle.std.specs.Prelude.{◌≡◌, Bool, true, false, not, ◌&&◌, List, [], ◌∷◌, ℕ, ◌<◌, length, get_or}
 use Rattle.screen.specs.Attributes.{protected_at}
-use Rattle.screen.specs.declared.record.FieldRecord.{FieldRecord}
 use Rattle.rules.specs.declared.Session.{Session}
 use Rattle.rules.specs.Session.{State, all_printable, screen, state}
 use Rattle.rules.specs.Effect.{Executed}
 use Rattle.rules.specs.Command.{reaches_past}
 use Rattle.rules.specs.Call.{Call, Answered, answers_of, state_after, executed_of}
-use Rattle.rules.specs.Listed.{listed, answers_listed, listed_after, executed_listed}
 
 -- none of these commands is one of the seven
 unfoldable pub none_reaches : List Executed → Bool
@@ -57,25 +55,3 @@ Noninterference =
     → Alike attrs c d
     → none_reaches (executed_of (state s (screen c attrs marks)) calls) ≡ true
     → Untold s attrs marks c d calls
-
--- Request (vii): the same of the calls with the list, which is a screen buffer: it is the same list at the start, whatever stands in it,
--- and is so at the end, in every record.
-abbrev pub UntoldListed : Session → List ℕ → List ℕ → List FieldRecord → List ℕ → List ℕ → List Call → Type 0
-UntoldListed s attrs marks list c d calls =
-    let first = listed (state s (screen c attrs marks)) list in
-    let second = listed (state s (screen d attrs marks)) list in
-    let x = listed_after first calls in
-    let y = listed_after second calls in
-    Indistinct attrs c d (answers_listed first calls) (answers_listed second calls) x.state y.state
-    × (x.list ≡ list)
-    × (y.list ≡ list)
-
-abbrev pub NoninterferenceListed : Type 0
-NoninterferenceListed =
-    (s : Session) (attrs marks : List ℕ) (list : List FieldRecord) (c d : List ℕ) (calls : List Call)
-    → s.frame.suppressed ≡ false
-    → all_printable c ≡ true
-    → all_printable d ≡ true
-    → Alike attrs c d
-    → none_reaches (executed_listed (listed (state s (screen c attrs marks)) list) calls) ≡ true
-    → UntoldListed s attrs marks list c d calls

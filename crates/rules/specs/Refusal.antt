@@ -1,8 +1,6 @@
 -- Document 01, "Refusal numbers", and those that document 02 adds.
-use Rattle.std.specs.Prelude.{Bool, ◌&&◌, not, List, [], ◌∷◌, ◌++◌, ℕ, leb, eqb, length}
+use Rattle.std.specs.Prelude.{Bool, ◌&&◌, List, [], ◌∷◌, ℕ, leb, eqb, length}
 use Rattle.words.specs.Words.{if◌then◌else◌}
-use Rattle.screen.specs.declared.record.FieldRecord.{FieldRecord}
-use Rattle.screen.specs.FieldList.{too_few, agrees}
 use Rattle.rules.specs.declared.Frame.{Frame}
 use Rattle.rules.specs.declared.Session.{Session}
 use Rattle.rules.specs.declared.Refusal.{Refusal}
@@ -20,8 +18,6 @@ use Rattle.rules.specs.declared.Refusal.TheVariants.{
   LineFull,
   BadMark,
   UnknownEdition,
-  ListRoom,
-  ListDisagrees,
 }
 use Rattle.rules.specs.Edition.{is_edition}
 use Rattle.rules.specs.Session.{Screen, sizes_ok, cells, reply_room, all_printable, all_marks, session_ok}
@@ -41,8 +37,6 @@ number_of NoMeaning = 9
 number_of LineFull = 10
 number_of BadMark = 11
 number_of UnknownEdition = 12
-number_of ListRoom = 13
-number_of ListDisagrees = 14
 
 abbrev pub is_taken : Refusal → Bool
 is_taken r = eqb (number_of r) 0
@@ -54,10 +48,6 @@ pub record Test : Type 0 where
 
 abbrev pub test : Bool → Refusal → Test
 test passes otherwise = record { passes = passes; otherwise = otherwise }
-
--- a test that was made already, by its outcome
-abbrev pub verdict_test : Refusal → Test
-verdict_test r = test (is_taken r) r
 
 -- the first test that fails decides
 unfoldable pub verdict : List Test → Refusal
@@ -81,23 +71,11 @@ open_tests f named b = size_test f ∷ test (is_edition named) UnknownEdition �
 unfoldable pub size_tests : Frame → Screen → List Test
 size_tests f b = size_test f ∷ buffer_test f b ∷ []
 
--- 3, 4 and 11, after those
-abbrev pub form_tests : Session → Screen → List Test
-form_tests s b =
-    test (all_printable b.chars) BadCharacter ∷ test (session_ok s) BadSession ∷ test (all_marks b.marks) BadMark ∷ []
-
--- 13: a record for each cell
-abbrev pub records_test : Frame → ℕ → Test
-records_test f records = test (not (too_few records (cells f))) ListRoom
-
--- 13 and 14, after those, where a list of fields is lent
-unfoldable pub list_tests : Frame → List ℕ → List FieldRecord → List Test
-list_tests f attrs list = records_test f (length list) ∷ test (agrees list attrs) ListDisagrees ∷ []
-
--- 5, after those
-abbrev pub room_tests : Frame → List ℕ → List Test
-room_tests f reply = test (leb (reply_room f) (length reply)) ReplyRoom ∷ []
-
--- 3, 4, 11 and 5, of a call that is lent no list
+-- 3, 4, 11 and 5, after those
 unfoldable pub state_tests : Session → Screen → List ℕ → List Test
-state_tests s b reply = form_tests s b ++ room_tests s.frame reply
+state_tests s b reply =
+    test (all_printable b.chars) BadCharacter
+    ∷ test (session_ok s) BadSession
+    ∷ test (all_marks b.marks) BadMark
+    ∷ test (leb (reply_room s.frame) (length reply)) ReplyRoom
+    ∷ []

@@ -5,7 +5,6 @@ use pad::line::EditLine;
 use pad::message::Message;
 use pad::parameter::Values;
 use screen::cell::Place;
-use screen::record::Found;
 use telnet::Phase;
 
 // The first bytes of a subnegotiation after its option byte, and how many they are: the count stops at 6.
@@ -32,15 +31,14 @@ pub enum Edition {
     September,
 }
 
-// What the rules go by: the cursor, the screen's size, the edition, which options are on, protection suppressed or in effect, and the maps
-// received in the latest facility command of each class. The cursor is stored by itself, so it stands first: amid the others it made most
-// reads of a whole frame wait for that store (the order was measured).
+// What the rules go by: the screen's size, the edition, the cursor, which options are on, protection suppressed or in effect, and the maps
+// received in the latest facility command of each class.
 #[derive(Drop)]
 pub struct Frame {
-    pub cursor: Place,
     pub width: u8,
     pub height: u8,
     pub edition: Edition,
+    pub cursor: Place,
     pub det: bool,
     pub x3: bool,
     pub suppressed: bool,
@@ -95,8 +93,6 @@ pub enum Refusal {
     LineFull,
     BadMark,
     UnknownEdition,
-    ListRoom,
-    ListDisagrees,
 }
 
 // What each operation answers.
@@ -106,13 +102,6 @@ pub struct Answer {
     pub refusal: Refusal,
     pub taken: usize,
     pub written: usize,
-}
-
-// What the question answers which unprotected field the cursor is in.
-#[derive(Drop)]
-pub struct FieldAnswer {
-    pub refusal: Refusal,
-    pub found: Found,
 }
 
 // The classes of facilities that 1 to 4 ask about.

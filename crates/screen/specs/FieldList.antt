@@ -51,8 +51,8 @@ agrees_from (x ∷ xs) attrs cell =
     let end = field_end attrs cell in if same_record x (record_of cell end) then agrees_from xs attrs end else false
 
 -- Refusal 13: fewer records than cells. Refusal 14: not the list of the fields, where an unused record is not zeros too.
-abbrev pub too_few : ℕ → ℕ → Bool
-too_few records cells = ltb records cells
+abbrev pub too_short : List FieldRecord → ℕ → Bool
+too_short list cells = ltb (length list) cells
 
 abbrev pub agrees : List FieldRecord → List ℕ → Bool
 agrees list attrs = agrees_from list attrs 0

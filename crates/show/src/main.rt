@@ -2,12 +2,9 @@
 // terminal: the cursor, the two lines, and how many reply bytes they drew. (Document 01, worked forms: `show`.)
 ghost use Rattle.std.specs.Prelude.{◌<◌, ◌≤◌, length};
 
-use fields::operation::{host_bytes, open};
-use fields::write::rebuild;
 use libc::{STDERR_FILENO, STDIN_FILENO, STDOUT_FILENO};
 use rules::{Answer, Session};
 use screen::cell::Place;
-use screen::record::FieldRecord;
 
 const WIDTH: usize = 8;
 
@@ -61,34 +58,8 @@ fn past(at: usize, taken: usize, end: usize) -> usize
     if taken < end - at { at + taken } else { end }
 }
 
-// A fresh session. The list of its fields is let go: `host` makes it anew.
-fn fresh(chars: &mut [u8], attrs: &mut [u8], marks: &mut [u8]) -> Answer {
-    let mut list = [FieldRecord {
-        start: 0,
-        length: 0,
-    }; 16];
-    open(WIDTH, HEIGHT, SEPTEMBER, chars, attrs, marks, &mut list)
-}
-
-// The operation, with a list of the fields that stand in the attributes now.
+// The operation, on the input from `at` on.
 fn host(
-    session: Session,
-    input: &[u8],
-    chars: &mut [u8],
-    attrs: &mut [u8],
-    marks: &mut [u8],
-    reply: &mut [u8],
-) -> Answer {
-    let mut list = [FieldRecord {
-        start: 0,
-        length: 0,
-    }; 16];
-    rebuild(&mut list, attrs, 16);
-    host_bytes(session, input, chars, attrs, marks, &mut list, reply)
-}
-
-// The same on the input from `at` on.
-fn host_from(
     session: Session,
     input: &[u8],
     at: usize,
@@ -99,7 +70,7 @@ fn host_from(
 ) -> Answer
     requires { at ≤ length input.now }
 {
-    host(session, &input[at..], chars, attrs, marks, reply)
+    det::operation::host_bytes(session, &input[at..], chars, attrs, marks, reply)
 }
 
 // One call, and where the next begins.
@@ -116,7 +87,7 @@ fn call(
     ensures { (at < result.at) × (result.at ≤ length input.now) }
 {
     let session = run.session;
-    let answer = host_from(session, input, at, chars, attrs, marks, reply);
+    let answer = host(session, input, at, chars, attrs, marks, reply);
     let after = answer.session;
     let replies = sum(run.replies, answer.written as u64);
     Step {
@@ -247,7 +218,7 @@ fn main() {
     let mut attrs = [0u8; 16];
     let mut marks = [0u8; 16];
     let mut reply = io::buffer();
-    let opened = fresh(&mut chars, &mut attrs, &mut marks);
+    let opened = admit::open::open(WIDTH, HEIGHT, SEPTEMBER, &mut chars, &mut attrs, &mut marks);
     let session = opened.session;
     let run = Run {
         session: session,

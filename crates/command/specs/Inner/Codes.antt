@@ -2,6 +2,7 @@
 use Rattle.std.specs.Prelude.{List, [], ◌∷◌, ℕ, zero, suc}
 use Rattle.words.specs.Words.{if◌then◌else◌, between}
 use Rattle.rules.specs.declared.Edition.{Edition}
+use Rattle.rules.specs.declared.Edition.TheVariants.{June, September}
 use Rattle.rules.specs.Edition.{meant_by}
 use Rattle.command.specs.declared.code.Entry.{Entry}
 
@@ -16,3 +17,8 @@ entries_from e code (suc n) = entry_of e code ∷ entries_from e (suc code) n
 
 abbrev pub entries : Edition → List Entry
 entries e = entries_from e 0 42
+
+-- which of the two arrays is an edition's
+abbrev pub array_of : Edition → ℕ
+array_of June = 0
+array_of September = 1

@@ -1,5 +1,5 @@
 -- What it is to apply an effect to the lent buffers.
-use Rattle.std.specs.Prelude.{◌≡◌, false, List, ℕ, length}
+use Rattle.std.specs.Prelude.{◌≡◌, List, ℕ, length}
 use Rattle.rules.specs.declared.Frame.{Frame}
 use Rattle.rules.specs.Session.{Screen, view}
 use Rattle.rules.specs.Effect.{Effect, marks_after, spelled_all}
@@ -12,7 +12,6 @@ use Rattle.det.specs.declared.apply.Applied.{Applied}
 pub record Applies (e : Effect) (b : Screen) (reply : List ℕ) (at : ℕ) (a : Applied) (b' : Screen) (reply' : List ℕ) : Type 0 where
   pub changes : Changes e b.chars b.attrs a.frame b'.chars
   pub attributes : b'.attrs ≡ e.view.attrs
-  pub unformatted : a.formatted ≡ false → b'.attrs ≡ b.attrs
   pub marks : b'.marks ≡ marks_after b.marks e.marking
   pub replies : Emitted reply at (spelled_all b e.reply) reply' a.written
 

@@ -13,10 +13,10 @@ open_spec =
     (λ c κs. search rules) (λ c. search rules) (λ c κs. search rules) (λ c κs. search rules) (λ c. search rules) (λ c. search rules)
     (λ c. search rules)
     (λ c. let b = c.before.before.before in
-    open_refused _ _ _ _ _ b.refuse-open.ensures (not_taken b.refuse-open.result c.before.before.match.keys2)
+    open_refused _ _ _ _ b.refuse-open.ensures (not_taken b.refuse-open.result c.before.before.match.keys2)
     c.before.fresh-session.ensures c.refused.ensures)
-    (λ c. let z = open_sizes _ _ _ _ _ c.before.before.refuse-open.ensures c.enum_told.given.1 in omega arith)
-    (λ c. let z = open_sizes _ _ _ _ _ c.before.before.refuse-open.ensures c.enum_told.given.1 in omega arith)
+    (λ c. let z = open_sizes _ _ _ _ c.before.before.refuse-open.ensures c.enum_told.given.1 in omega arith)
+    (λ c. let z = open_sizes _ _ _ _ c.before.before.refuse-open.ensures c.enum_told.given.1 in omega arith)
     (λ c κs. search rules) (λ c κs. search rules) (λ c κs. search rules) (λ c κs. search rules) (λ c κs. search rules) (λ c. search rules)
     (λ c. search rules) (λ c. search rules)
     (λ c. let k = c.before.before in
@@ -24,5 +24,5 @@ open_spec =
     let s = f.before.before.before.before in
     let b = s.before.before.before in
     let g = b.before in
-    open_done _ _ _ _ _ g.before.before.before.refuse-open.ensures g.before.enum_told.given.1 (rw g.edition-of.ensures at b.fresh-session2.ensures) s.erase.ensures
+    open_done _ _ _ _ g.before.before.before.refuse-open.ensures g.before.enum_told.given.1 (rw g.edition-of.ensures at b.fresh-session2.ensures) s.erase.ensures
     f.fill.ensures k.fill2.ensures))

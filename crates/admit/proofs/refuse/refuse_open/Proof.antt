@@ -1,7 +1,6 @@
 -- `refuse_open` meets its contract: the tests in their order.
 use native.Mathlib.Omega.{arith}
 use borrow.Author.Rules.{rules}
-use borrow.Author.Tests.{lt-ltb, le-ltb}
 use Rattle.rules.specs.Refusal.{verdict, open_tests}
 use Rattle.screen.proofs.TestLaws.{failing, passing}
 use Rattle.admit.proofs.RefuseLaws.{few}
@@ -28,21 +27,10 @@ refuse_open_spec =
       passing e.before.is-edition.ensures e.if2.false,
       failing c.before.lengths-ok.ensures c.if3.true,
     ))
-    (λ c. let l = c.before in
-    let e = l.before.before in
+    (λ c. let e = c.before.before in
     let s = e.before.before in
     rw (
       passing s.before.sizes-ok.ensures s.if1.false,
       passing e.before.is-edition.ensures e.if2.false,
-      passing l.before.lengths-ok.ensures l.if3.false,
-      lt-ltb _ _ c.if4.true,
-    ))
-    (λ c. let l = c.before in
-    let e = l.before.before in
-    let s = e.before.before in
-    rw (
-      passing s.before.sizes-ok.ensures s.if1.false,
-      passing e.before.is-edition.ensures e.if2.false,
-      passing l.before.lengths-ok.ensures l.if3.false,
-      le-ltb _ _ c.if4.false,
+      passing c.before.lengths-ok.ensures c.if3.false,
     )))

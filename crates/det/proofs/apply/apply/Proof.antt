@@ -10,16 +10,15 @@ pub apply_spec : {M : Type 1} → statement M
 apply_spec =
     tie.close
     (tie.spec
-    (λ c κs. search rules) (λ c κs. search rules) (λ c κs. search rules) (λ c κs. search rules) (λ c κs. search rules) (λ c. search rules) (λ c. search rules) (λ c. search rules) (λ c. search rules)
-    (λ c. let k = c.before.before.before in
+    (λ c κs. search rules) (λ c κs. search rules) (λ c κs. search rules) (λ c κs. search rules) (λ c. search rules) (λ c. search rules) (λ c. search rules) (λ c. search rules)
+    (λ c. let k = c.before.before in
     let f = k.before.before.before.before in
     let d = f.before.before.before.before in
     let w = d.before.before.before.before.before in
     let done = d.change-any.ensures in
     record {
-      changes = record { frame = c.moved.ensures ∙ done.frame; characters = done.characters };
-      attributes = f.format-attrs.ensures.0;
-      unformatted = f.format-attrs.ensures.1;
+      changes = record { frame = done.frame; characters = done.characters };
+      attributes = f.format-attrs.ensures;
       marks = k.mark.ensures ∙ rw (marking_of_lem _ w.before.before.before.before.before.before.before.before.before.before.args.decision.edit);
       replies = said w.before.before.before.before.before.before.before.before.before.before.requires w.say-any.ensures;
     }))

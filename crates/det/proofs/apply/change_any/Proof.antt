@@ -10,6 +10,6 @@ change_any_spec =
     (tie.spec
     (λ c. search rules)
     (λ c κs. search rules)
-    (λ c. rw c.before.enum_told.given.1 (changes_none _ _ _))
+    (λ c. rw c.enum_told.given.1 (changes_none _ _ _))
     (λ c. search rules)
     (λ c. search rules))

@@ -9,7 +9,7 @@ change_chars_spec =
     tie.close
     (tie.spec
     (λ c. search rules) (λ c κs. search rules) (λ c. search rules)
-    (λ c. let d = c.before.before.before in
+    (λ c. let d = c.before.before in
     let m = d.before.before in
     let edit = m.before.before.before.args.edit in
     changes_once edit (not_repeat edit m.match.keys2) d.change-cells.ensures)

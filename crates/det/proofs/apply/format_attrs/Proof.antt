@@ -1,8 +1,5 @@
 -- `format_attrs` meets its contract: kept, or filled.
-use mathlib.Core.Path.{refl}
-use mathlib.Core.Bool.{true}
 use borrow.Author.Rules.{rules}
-use Rattle.words.proofs.Laws.{not_both}
 use Rattle.det.proofs.apply.format_attrs.Statement.{statement}
 use Rattle.det.proofs.apply.format_attrs.Tie as tie
 
@@ -10,5 +7,5 @@ pub format_attrs_spec : {M : Type 1} → statement M
 format_attrs_spec =
     tie.close
     (tie.spec
-    (λ c. search rules) (λ c. search rules) (λ c κs. search rules) (λ c. (rw c.enum_told.given.1, λ e. refl)) (λ c. search rules)
-    (λ c. let p = c.before.before in (rw p.before.before.before.change.given.1 p.fill.ensures, λ e. not_both true refl e)))
+    (λ c. search rules) (λ c. search rules) (λ c κs. search rules) (λ c. search rules) (λ c. search rules)
+    (λ c. let p = c.before.before in rw p.before.before.before.change.given.1 p.fill.ensures))

@@ -20,5 +20,5 @@ repeat_spec =
     let m = p.before.before in
     let l = m.before in
     (search rules, repeating_more l.before.loop.invariant.1 l.loop-test.true (rw m.moved.ensures at p.put-character.ensures)))
-    (λ c. search rules)
-    (λ c. repeating_end c.before.loop.invariant.1 c.loop-test.false))
+    (λ c κs. search rules) (λ c. search rules)
+    (λ c. rw c.moved2.ensures (repeating_end c.before.before.loop.invariant.1 c.before.loop-test.false)))

@@ -13,10 +13,10 @@ refuse_key_spec =
     (λ c κs. search rules) (λ c. search rules)
     (λ c. let b = c.before in
     let a = b.before.before.before.before.before.args in
-    refused_first (state a.session (screen a.chars.now a.attrs.now a.marks.now)) a.reply.now a.code a.listed b.refuse.ensures
+    refused_first (state a.session (screen a.chars.now a.attrs.now a.marks.now)) a.reply.now a.code b.refuse.ensures
     (not_taken b.refuse.result c.match.keys2))
     (λ c κs. search rules)
     (λ c. let t = c.before in
     let a = t.before.before.before.before.before.before.before.args in
-    refused_last (state a.session (screen a.chars.now a.attrs.now a.marks.now)) a.reply.now a.code a.listed
+    refused_last (state a.session (screen a.chars.now a.attrs.now a.marks.now)) a.reply.now a.code
     t.before.before.refuse.ensures t.enum_told.given.1 (c.refuse-press.ensures a.chars.now a.marks.now)))

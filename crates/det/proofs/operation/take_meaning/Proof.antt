@@ -9,14 +9,13 @@ take_meaning_spec =
     tie.close
     (tie.spec
     (λ c κs. search rules) (λ c κs. search rules) (λ c κs. search rules) (λ c κs. search rules) (λ c κs. search rules) (λ c κs. search rules)
-    (λ c κs. search rules) (λ c. search rules) (λ c. search rules)
-    (λ c. search (rules, c.before.before.before.before.before.before.before.before.before.before.before.reply.given))
-    (λ c. let m = c.before.before.before.before in
+    (λ c. search rules) (λ c. search rules) (λ c. search rules)
+    (λ c. let m = c.before.before.before in
     let a = m.before.before.before.before in
     let w = a.before.before.before.before in
     let d = w.before.before.before.before.before in
     let k = d.before in
     let start = k.before.before.before.before.before in
-    rw (c.with-frame.ensures, c.before.moved.ensures)
+    rw c.with-frame.ensures
     (key_settled _ _ _ start.requires.0 start.requires.1 k.key_of.ensures d.press.ensures w.write-reply.ensures
     a.change-chars.ensures m.mark.ensures)))

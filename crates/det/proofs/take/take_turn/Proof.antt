@@ -1,5 +1,4 @@
 -- `take_turn` meets its contract: a stretch, and what is told after it.
-use mathlib.Core.Path.{refl}
 use native.Mathlib.Omega.{arith}
 use borrow.Author.Rules.{rules}
 use Rattle.det.proofs.HostLaws.{stretch_accepts, stretch_outside, stretch_onward, stretch_turns, then_turns}
@@ -13,7 +12,7 @@ take_turn_spec =
     (λ c κs. search rules) (λ c. search rules) (λ c. search rules)
     (λ c. let s = c.before.before.before in
     let start = s.before.before.before.before.before.before.before.before in
-    ((omega (arith, start.requires.1.1, c.if1.true), λ f. refl), stretch_turns _ (s.take-stretch.ensures start.args.marks.now)))
+    (omega (arith, start.requires.1.1, c.if1.true), stretch_turns _ (s.take-stretch.ensures start.args.marks.now)))
     (λ c κs. let i = c.before.before.before.before.before.before in
     let s = i.before.before.before in
     let start = s.before.before.before.before.before.before.before.before in
@@ -24,4 +23,4 @@ take_turn_spec =
     let s = t.before.before.before.before.before.before.before.before.before.before in
     let start = s.before.before.before.before.before.before.before.before in
     let q = s.take-stretch.ensures start.args.marks.now in
-    ((omega (arith, stretch_onward start.args.reply.now q, t.take-told.ensures.0.0), t.take-told.ensures.0.1), then_turns _ q t.take-told.result t.take-told.ensures.1)))
+    (omega (arith, stretch_onward start.args.reply.now q, t.take-told.ensures.0), then_turns _ q _ t.take-told.ensures.1)))

@@ -16,7 +16,7 @@ det_host_spec =
     (λ c. let i = c.before.before.before in host_none _ _ _ i.before.is-session.ensures i.if1.true c.no-session.ensures _)
     (λ c κs. search rules)
     (λ c κs. search rules)
-    (λ c κs. let h = c.before.before.before.before.before.before.before.before.before.before.before.before in
+    (λ c κs. let h = c.before.before.before.before.before.before.before.before.before.before.before in
     let i = h.before.before.before.before.before.before.before in
     session_length_lem _ (passing i.before.is-session.ensures i.if1.false))
     (λ c. search rules)
@@ -25,7 +25,7 @@ det_host_spec =
     (λ c. search rules)
     (λ c. search rules)
     (λ c. let g = c.before.before in
-    let h = g.before.before.before.before.before.before.before.before.before.before.before.before.before in
+    let h = g.before.before.before.before.before.before.before.before.before.before.before.before in
     let d = h.before.before.before.before.before in
     let i = d.before.before in
-    host_done _ _ _ i.before.is-session.ensures i.if1.false d.decode.ensures g.give.ensures _ h.host-bytes.ensures.1))
+    host_done _ _ _ i.before.is-session.ensures i.if1.false d.decode.ensures g.give.ensures _ h.host-bytes.ensures))

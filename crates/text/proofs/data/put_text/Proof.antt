@@ -37,8 +37,7 @@ put_text_spec =
       l.last-counts.ensures.within,
       search rules,
     ))
-    (λ c. search rules) (λ c κs. search rules) (λ c κs. search rules) (λ c κs. search rules)
-    (λ c. search (rules, c.before.before.before.before.before.before.before.before.before.before.before.before.before.before.before.ranges.end))
+    (λ c. search rules) (λ c κs. search rules) (λ c κs. search rules) (λ c κs. search rules) (λ c. search rules)
     (λ c. let i = c.before.before.before.before.before.before in
     omega (arith, i.if1.false, i.before.open-run.ensures.few, i.before.before.before.loop-test.true))
     (λ c. let d = c.before.before.before in

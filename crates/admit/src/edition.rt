@@ -8,12 +8,14 @@ const JUNE: usize = 731;
 
 const SEPTEMBER: usize = 732;
 
+#[tactic(auto, unfolding(rules::specs::Edition::is_edition))]
 pub(crate) fn is_edition(named: usize) -> bool
     ensures { result ≡ is_edition named }
 {
     named == JUNE || named == SEPTEMBER
 }
 
+#[tactic(auto, unfolding(rules::specs::Edition::edition_of))]
 pub(crate) fn edition_of(named: usize) -> Edition
     ensures { result ≡ edition_of named }
 {
@@ -24,6 +26,7 @@ pub(crate) fn edition_of(named: usize) -> Edition
     }
 }
 
+#[tactic(auto, unfolding(rules::specs::Edition::name_of))]
 pub fn name_of(edition: Edition) -> usize
     ensures { result ≡ name_of edition }
 {

@@ -49,6 +49,7 @@ fn greater(a: u8, b: u8) -> u8
 }
 
 // By the least and the greatest character. The loop has one way out, so that the compiler takes sixteen characters at a time.
+#[tactic(auto, using(crate::proofs::RefuseLaws::and_true, crate::proofs::RefuseLaws::text_on), unfolding(rules::specs::Session::all_printable))]
 fn all_printable(chars: &[u8]) -> bool
     ensures { result ≡ all_printable chars.now }
 {
@@ -64,6 +65,7 @@ fn all_printable(chars: &[u8]) -> bool
 }
 
 // Each mark is 0 or 1, by the greatest of them.
+#[tactic(auto, using(crate::proofs::RefuseLaws::and_true, crate::proofs::RefuseLaws::marks_on), unfolding(rules::specs::Session::all_marks))]
 fn all_marks(marks: &[u8]) -> bool
     ensures { result ≡ all_marks marks.now }
 {
@@ -77,6 +79,7 @@ fn all_marks(marks: &[u8]) -> bool
 }
 
 // Option 30 is off, or there are cells enough for a full edit line to fit the reply room.
+#[tactic(auto, using(screen::proofs::CellLaws::byte_product))]
 fn x3_fits(frame: Frame) -> bool
     ensures { result ≡ (not frame.x3 || leb x3_cells (cells frame)) }
 {
@@ -87,6 +90,7 @@ fn x3_fits(frame: Frame) -> bool
 }
 
 // Every value is admissible, those of the half-read message's copy too, and the edit line is in its range.
+#[tactic(auto, using(screen::proofs::TestLaws::failing, screen::proofs::TestLaws::passing), unfolding(rules::specs::Session::pad_ok))]
 fn pad_ok(pad: Pad) -> bool
     ensures { result ≡ pad_ok pad }
 {
@@ -106,6 +110,7 @@ fn pad_ok(pad: Pad) -> bool
 }
 
 // The cursor is on the screen, at most six bytes are held, option 30 fits, and the PAD is in its ranges.
+#[tactic(auto, using(screen::proofs::TestLaws::failing, screen::proofs::TestLaws::passing), unfolding(rules::specs::Session::session_ok))]
 fn session_ok(session: Session) -> bool
     ensures { result ≡ session_ok session }
 {
@@ -127,6 +132,7 @@ fn session_ok(session: Session) -> bool
 }
 
 // The worst single reply: 9C.
+#[tactic(auto, using(screen::proofs::CellLaws::byte_product))]
 pub fn reply_room(frame: Frame) -> usize
     ensures { result ≡ reply_room frame }
 {
@@ -148,6 +154,7 @@ fn lengths_ok(cells: usize, chars: &[u8], attrs: &[u8], marks: &[u8]) -> bool
 }
 
 // Refusals 1, 12 and 2, all that open has.
+#[tactic(auto, using(screen::proofs::TestLaws::failing, screen::proofs::TestLaws::passing, crate::proofs::RefuseLaws::few), unfolding(rules::specs::Refusal::verdict, rules::specs::Refusal::open_tests))]
 pub(crate) fn refuse_open(
     m: usize,
     n: usize,
@@ -175,6 +182,7 @@ pub(crate) fn refuse_open(
 }
 
 // Refusals 1 and 2, of a session.
+#[tactic(auto, using(screen::proofs::TestLaws::failing, screen::proofs::TestLaws::passing, crate::proofs::RefuseLaws::few), unfolding(rules::specs::Refusal::verdict, rules::specs::Refusal::size_tests))]
 fn refuse_sizes(frame: Frame, chars: &[u8], attrs: &[u8], marks: &[u8]) -> Refusal
     ensures { result ≡ verdict (size_tests frame (lent chars.entry attrs.entry marks.entry)) }
 {
@@ -192,6 +200,7 @@ fn refuse_sizes(frame: Frame, chars: &[u8], attrs: &[u8], marks: &[u8]) -> Refus
 }
 
 // Refusals 3, 4, 11 and 5.
+#[tactic(auto, using(screen::proofs::TestLaws::failing, screen::proofs::TestLaws::passing), unfolding(rules::specs::Refusal::verdict, rules::specs::Refusal::state_tests))]
 fn refuse_state(session: Session, chars: &[u8], marks: &[u8], reply: &[u8]) -> Refusal
     ensures { (attrs : List ℕ)
         → result ≡ verdict (state_tests session (screen chars.now attrs marks.now) reply.now) }
@@ -215,6 +224,7 @@ fn refuse_state(session: Session, chars: &[u8], marks: &[u8], reply: &[u8]) -> R
 }
 
 // Refusals 1 to 5 and 11, of host bytes and of a key.
+#[tactic(auto, using(crate::proofs::RefuseLaws::passed_on, crate::proofs::RefuseLaws::failed_first, command::proofs::RefusalLaws::not_taken), unfolding(rules::specs::Refusal::size_tests))]
 pub fn refuse(session: Session, chars: &[u8], attrs: &[u8], marks: &[u8], reply: &[u8]) -> Refusal
     ensures { result ≡ host_refusal (state session (lent chars.entry attrs.entry marks.entry)) reply.now }
 {

@@ -9,7 +9,7 @@ use crate::number::*;
 use rules::{Code, Edition};
 
 // The command that a code means; what is sent only stands here too, since its code is written by the table.
-#[derive(Drop)]
+#[derive(Clone, Copy)]
 struct Entry(u8);
 
 const COUNT: u8 = 42;
@@ -116,6 +116,7 @@ fn array_of(edition: Edition) -> usize
     }
 }
 
+#[tactic(auto, using(crate::proofs::CodeLaws::array_below, crate::proofs::CodeLaws::table_at), unfolding(rules::specs::Edition::meant_by, crate::specs::Inner::Codes::entry_of, crate::specs::Inner::Codes::entries_from))]
 fn entry_of(edition: Edition, code: u8) -> Entry
     requires { code < 42 }
     ensures { result ≡ entry_of edition code }
@@ -124,6 +125,7 @@ fn entry_of(edition: Edition, code: u8) -> Entry
     entries[code as usize]
 }
 
+#[tactic(auto, using(crate::proofs::CodeLaws::entry_means, crate::proofs::CodeLaws::past_table))]
 pub fn command_of(edition: Edition, code: u8) -> Code
     ensures { result ≡ meaning (row_of edition code) }
 {
@@ -135,6 +137,7 @@ pub fn command_of(edition: Edition, code: u8) -> Code
 }
 
 // A command that the edition has is meant by its own number, or else by the one below.
+#[tactic(auto, using(crate::proofs::CodeLaws::in_table, crate::proofs::CodeLaws::below_42, crate::proofs::CodeLaws::code_here, crate::proofs::CodeLaws::code_below))]
 pub(crate) fn code_of(edition: Edition, command: u8) -> u8
     requires { holds edition command ≡ true }
     ensures { result ≡ code_for edition command }

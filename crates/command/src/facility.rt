@@ -87,6 +87,7 @@ pub fn no_maps() -> Maps
 }
 
 // The maps after a facility command: those of its class are the ones received last.
+#[tactic(auto, unfolding(rules::specs::Facility::receiving))]
 pub fn receive(maps: Maps, facility: Facility, first: u8, second: u8) -> Maps
     ensures { result ≡ receiving maps facility first second }
 {
@@ -117,6 +118,7 @@ fn in_both(weight: u8, received: u8, own: u8) -> bool
 }
 
 // Is what governs a subcommand agreed, these maps having been received?
+#[tactic(auto, unfolding(rules::specs::Facility::agreed))]
 pub fn is_agreed(edition: Edition, maps: Maps, governor: Governor) -> bool
     ensures { result ≡ agreed edition maps governor }
 {

@@ -23,6 +23,7 @@ fn unless(passed: bool, fault: Fault) -> Fault
 }
 
 // The cell after the last one that FORMAT DATA formats: it starts at the cursor.
+#[tactic(auto, using(screen::proofs::CellLaws::byte_product))]
 pub fn format_end(frame: Frame, held: Held) -> usize
     ensures { result ≡ cell_of frame.width frame.cursor + format_count held }
 {
@@ -30,6 +31,7 @@ pub fn format_end(frame: Frame, held: Held) -> usize
 }
 
 // The ERROR that FORMAT DATA's values draw: map bits, then more cells than remain.
+#[tactic(auto, unfolding(rules::specs::Command::value_fault))]
 fn format_fault(frame: Frame, attrs: &[u8], held: Held) -> Fault
     ensures { result ≡ value_fault (seen frame attrs.entry) Command.FormatData held }
 {
@@ -49,6 +51,7 @@ fn is_verb(byte: u8) -> bool
 }
 
 // The ERROR that the parameters' values draw, their count being right.
+#[tactic(auto, using(crate::proofs::FaultLaws::any_values), unfolding(rules::specs::Command::value_fault))]
 fn value_fault(frame: Frame, attrs: &[u8], command: Command, held: Held) -> Fault
     ensures { result ≡ value_fault (seen frame attrs.entry) command held }
 {
@@ -69,6 +72,7 @@ fn value_fault(frame: Frame, attrs: &[u8], command: Command, held: Held) -> Faul
 
 // The ERROR that a known command draws: by its facility, by its parameters' count, then by their values. The code is among the bytes
 // held.
+#[tactic(auto, unfolding(rules::specs::Command::fault_of))]
 pub fn fault_of(
     frame: Frame,
     attrs: &[u8],

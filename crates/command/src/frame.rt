@@ -61,6 +61,7 @@ pub fn cursor_guarded(frame: Frame, attrs: &[u8]) -> bool
 }
 
 // Is the cursor on the screen, with an attribute byte for each cell?
+#[tactic(auto, using(screen::proofs::CellLaws::byte_product))]
 pub fn fits(frame: Frame, attrs: &[u8]) -> bool
     ensures { result ≡ fitting (seen frame attrs.entry) }
 {

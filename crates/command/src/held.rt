@@ -19,6 +19,7 @@ pub fn none() -> Held
 }
 
 // One byte more where fewer than six are held: the count after it.
+#[tactic(auto, unfolding(rules::specs::Telnet::holding))]
 pub fn hold_in(bytes: &mut [u8; 6], count: u8, byte: u8) -> u8
     ensures { record { bytes = bytes.exit.now; count = result }
         ≡ holding (record { bytes = bytes.entry.now; count = count }) byte }
@@ -42,6 +43,7 @@ pub fn hold(held: Held, byte: u8) -> Held
 }
 
 // What is held after these bytes, one after the other.
+#[tactic(auto, using(crate::proofs::HeldLaws::held_more, crate::proofs::HeldLaws::held_all), unfolding(crate::specs::Held::holding_all))]
 pub fn hold_all(held: Held, input: &[u8]) -> Held
     ensures { result ≡ holding_all held input.now }
 {
@@ -72,6 +74,7 @@ fn at_most_six(n: usize) -> u8
 }
 
 // What is held of a whole subnegotiation: its first six bytes, read at once.
+#[tactic(auto, using(crate::proofs::HeldLaws::held_first))]
 pub fn held_of(bytes: &[u8]) -> Held
     ensures { result ≡ holding_all none_held bytes.now }
 {
@@ -90,6 +93,7 @@ pub fn held_of(bytes: &[u8]) -> Held
 }
 
 // What is held after what the reader told.
+#[tactic(auto, unfolding(rules::specs::Telnet::held_after))]
 pub fn held_after(held: Held, event: Event) -> Held
     ensures { result ≡ held_after held event }
 {
@@ -106,6 +110,7 @@ pub fn held_after(held: Held, event: Event) -> Held
 }
 
 // Whether the last byte of data was a CR, after what the reader told.
+#[tactic(auto, unfolding(rules::specs::Telnet::cr_after))]
 pub fn cr_after(cr: bool, event: Event) -> bool
     ensures { result ≡ cr_after cr event }
 {

@@ -23,6 +23,7 @@ fn known(command: Command, parameters: u8, governor: Governor) -> Code
 }
 
 // What the row of this command says: its meaning, how many parameters it takes, and what governs it. What is sent only has none.
+#[tactic(auto, unfolding(rules::specs::Facility::weight, rules::specs::Command::rows, rules::specs::Command::row_in, rules::specs::Command::meaning))]
 pub(crate) fn meaning_of(command: u8) -> Code
     ensures { result ≡ meaning (row_in rows command) }
 {

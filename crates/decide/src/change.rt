@@ -29,6 +29,7 @@ fn erase_range(frame: Frame, from: usize, end: usize) -> Decision
 }
 
 // 29: all spaces, attributes 0, marks 0, cursor (0,0).
+#[tactic(auto, using(edit::proofs::EditLaws::all_zeros), unfolding(rules::specs::Subcommand::erasure))]
 fn erase_screen(frame: Frame, attrs: &[u8]) -> Decision
     requires { Fits (seen frame attrs) }
     ensures { Decides (seen frame attrs.entry) result (λ v. erasure v Area.WholeScreen) }
@@ -51,6 +52,7 @@ fn erase_screen(frame: Frame, attrs: &[u8]) -> Decision
 }
 
 // 35: spaces in all unprotected cells, marks 0, and the cursor as after 21.
+#[tactic(auto, unfolding(rules::specs::Subcommand::erasure))]
 fn erase_unprotected(frame: Frame, attrs: &[u8]) -> Decision
     requires { Fits (seen frame attrs) }
     ensures { Decides (seen frame attrs.entry) result (λ v. erasure v Area.Unprotected) }
@@ -68,6 +70,7 @@ fn erase_unprotected(frame: Frame, attrs: &[u8]) -> Decision
     }
 }
 
+#[tactic(auto, unfolding(rules::specs::Subcommand::erasure))]
 pub(crate) fn erase(frame: Frame, attrs: &[u8], area: Area) -> Decision
     requires { Fits (seen frame attrs) }
     ensures { Decides (seen frame attrs.entry) result (λ v. erasure v area) }
@@ -100,6 +103,7 @@ fn cursor_span_end(frame: Frame, attrs: &[u8]) -> usize
 }
 
 // 15, 16: nothing on a guarded cell.
+#[tactic(auto, using(crate::proofs::ObeyLaws::shift_not, crate::proofs::ObeyLaws::shift_span))]
 pub(crate) fn char_shift(frame: Frame, attrs: &[u8], shift: Shift) -> Decision
     ensures { Decides (seen frame attrs.entry) result (λ v. shifting v shift) }
 {
@@ -119,6 +123,7 @@ pub(crate) fn char_shift(frame: Frame, attrs: &[u8], shift: Shift) -> Decision
 }
 
 // 13, 14: nothing where a cell from the start of the line on is guarded.
+#[tactic(auto, using(crate::proofs::ObeyLaws::lines_not, crate::proofs::ObeyLaws::lines_shifted))]
 pub(crate) fn line_shift(frame: Frame, attrs: &[u8], shift: Shift) -> Decision
     ensures { Decides (seen frame attrs.entry) result (λ v. line_shifting v shift) }
 {

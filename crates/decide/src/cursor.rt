@@ -38,6 +38,7 @@ fn at(x: u8, y: u8) -> Place
 }
 
 // The place of a cell of the screen.
+#[tactic(auto, using(screen::proofs::CellLaws::place_whole))]
 pub(crate) fn place_on(frame: Frame, cell: usize) -> Place
     requires { cell < frame.height * frame.width }
     ensures { result ≡ place_of frame.width cell }
@@ -77,6 +78,7 @@ pub(crate) fn skipped_to_line(frame: Frame, y: u8) -> Frame
 }
 
 // 7: the lines that a skip past the line's end goes down.
+#[tactic(auto, unfolding(rules::specs::Cursor::lines_down))]
 fn lines_down(frame: Frame, x: u8) -> u8
     requires { OnScreen frame }
     ensures { result ≡ lines_down frame x }
@@ -93,6 +95,7 @@ fn line_around(frame: Frame, y: u8, down: u8) -> u8
 }
 
 // 7: past the line's end both go round.
+#[tactic(auto, unfolding(rules::specs::Cursor::skipped_to_char))]
 pub(crate) fn skipped_to_char(frame: Frame, x: u8) -> Frame
     requires { OnScreen frame }
     ensures { result ≡ placed frame (skipped_to_char frame x) }
@@ -148,6 +151,7 @@ pub(crate) fn left(frame: Frame) -> Place
 }
 
 // At the last cell the cursor stays.
+#[tactic(auto, unfolding(rules::specs::Cursor::next_cell))]
 pub(crate) fn next_cell(frame: Frame) -> Place
     ensures { result ≡ next_cell frame }
 {
@@ -162,6 +166,7 @@ pub(crate) fn next_cell(frame: Frame) -> Place
     frame.cursor
 }
 
+#[tactic(auto, unfolding(screen::specs::Scans::is_target, rules::specs::Cursor::home_cell))]
 fn home_cell(frame: Frame, attrs: &[u8]) -> usize
     ensures { result ≡ home_cell (seen frame attrs.entry) }
 {
@@ -171,6 +176,7 @@ fn home_cell(frame: Frame, attrs: &[u8]) -> usize
     first(attrs, Target::Open(false), 0, 0)
 }
 
+#[tactic(auto, unfolding(screen::specs::Scans::is_target, rules::specs::Cursor::back_tab_cell))]
 fn back_tab_cell(frame: Frame, attrs: &[u8]) -> usize
     ensures { result ≡ back_tab_cell (seen frame attrs.entry) }
 {
@@ -180,12 +186,14 @@ fn back_tab_cell(frame: Frame, attrs: &[u8]) -> usize
     last(attrs, Target::UnprotectedStart, cursor_cell(frame), 0)
 }
 
+#[tactic(auto, unfolding(screen::specs::Scans::is_target, rules::specs::Cursor::first_field_cell))]
 fn first_field_cell(frame: Frame, attrs: &[u8], none: usize) -> usize
     ensures { result ≡ first_field_cell (seen frame attrs.entry) none }
 {
     first(attrs, Target::UnprotectedStart, 0, none)
 }
 
+#[tactic(auto, using(screen::proofs::CellLaws::byte_product), unfolding(screen::specs::Scans::is_target, rules::specs::Cursor::first_field_cell, rules::specs::Cursor::next_field_cell))]
 fn next_field_cell(frame: Frame, attrs: &[u8]) -> usize
     ensures { result ≡ next_field_cell (seen frame attrs.entry) }
 {
@@ -193,6 +201,7 @@ fn next_field_cell(frame: Frame, attrs: &[u8]) -> usize
     first_around(attrs, Target::UnprotectedStart, cell + 1, cell)
 }
 
+#[tactic(auto, unfolding(screen::specs::Scans::is_target, rules::specs::Cursor::previous_open_cell))]
 fn previous_open_cell(frame: Frame, attrs: &[u8]) -> usize
     ensures { result ≡ previous_open_cell (seen frame attrs.entry) }
 {
@@ -201,6 +210,7 @@ fn previous_open_cell(frame: Frame, attrs: &[u8]) -> usize
 }
 
 // After a typed character.
+#[tactic(auto, using(crate::proofs::WriteLaws::next_open_is))]
 pub(crate) fn next_open_place(frame: Frame, attrs: &[u8]) -> Place
     requires { Fits (seen frame attrs) }
     ensures { result ≡ destination (seen frame attrs.entry) Destination.NextOpen }
@@ -210,6 +220,7 @@ pub(crate) fn next_open_place(frame: Frame, attrs: &[u8]) -> Place
 }
 
 // Any of them.
+#[tactic(auto, using(crate::proofs::ObeyLaws::origin_lt, crate::proofs::ObeyLaws::home_lt, crate::proofs::ObeyLaws::back_tab_lt, crate::proofs::ObeyLaws::first_field_lt, crate::proofs::ObeyLaws::next_field_lt, crate::proofs::ObeyLaws::previous_open_lt), unfolding(rules::specs::Cursor::destination))]
 pub(crate) fn destination(frame: Frame, attrs: &[u8], to: Destination) -> Place
     requires { Fits (seen frame attrs) }
     ensures { result ≡ destination (seen frame attrs.entry) to }

@@ -8,7 +8,7 @@ use screen::cell::Place;
 use telnet::Verb;
 
 // What becomes of the characters. (Request (v): `Put`, a typed character, and `Shift` mark the cells that they write.)
-#[derive(Drop)]
+#[derive(Clone, Copy)]
 pub enum Edit {
     Nothing,
     Put {
@@ -36,7 +36,7 @@ pub enum Edit {
 }
 
 // What is sent.
-#[derive(Drop)]
+#[derive(Clone, Copy)]
 pub enum Say {
     Silent,
     Negotiation {
@@ -68,13 +68,13 @@ pub enum Say {
 }
 
 // What becomes of the attribute bytes.
-#[derive(Drop)]
+#[derive(Clone, Copy)]
 pub enum Format {
     Keep,
     Fill { from: usize, end: usize, attr: u8 },
 }
 
-#[derive(Drop)]
+#[derive(Clone, Copy)]
 pub struct Decision {
     pub frame: Frame,
     pub edit: Edit,

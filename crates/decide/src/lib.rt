@@ -1,4 +1,6 @@
 // What a host byte or a key is decided to do, from the session and the attribute bytes alone: nothing here sees a character.
+#![tactic(auto)]
+
 mod change;
 mod cursor;
 pub mod decision;

@@ -25,6 +25,7 @@ fn answered(frame: Frame, verb: Verb, option: u8) -> Decision
 }
 
 // The options that the terminal has.
+#[tactic(auto, unfolding(rules::specs::Telnet::option_of))]
 fn option_of(option: u8) -> TelnetOption
     ensures { result ≡ option_of option }
 {
@@ -35,6 +36,7 @@ fn option_of(option: u8) -> TelnetOption
     }
 }
 
+#[tactic(auto, unfolding(rules::specs::Telnet::is_on))]
 fn is_on(frame: Frame, option: TelnetOption) -> bool
     ensures { result ≡ is_on frame option }
 {
@@ -46,6 +48,7 @@ fn is_on(frame: Frame, option: TelnetOption) -> bool
 }
 
 // May it be switched on? 30 only where a full edit line fits the reply room.
+#[tactic(auto, using(screen::proofs::CellLaws::byte_product), unfolding(rules::specs::Telnet::accepts))]
 fn is_accepted(frame: Frame, option: TelnetOption) -> bool
     ensures { result ≡ accepts frame option }
 {
@@ -56,6 +59,7 @@ fn is_accepted(frame: Frame, option: TelnetOption) -> bool
     }
 }
 
+#[tactic(auto, unfolding(rules::specs::Telnet::turned))]
 fn turned_on(frame: Frame, option: TelnetOption) -> Frame
     ensures { result ≡ turned frame option true }
 {
@@ -67,6 +71,7 @@ fn turned_on(frame: Frame, option: TelnetOption) -> Frame
 }
 
 // With DET off, protection is in effect again, and nothing is agreed.
+#[tactic(auto, unfolding(rules::specs::Telnet::turned))]
 fn turned_off(frame: Frame, option: TelnetOption) -> Frame
     ensures { result ≡ turned frame option false }
 {
@@ -77,6 +82,7 @@ fn turned_off(frame: Frame, option: TelnetOption) -> Frame
     }
 }
 
+#[tactic(auto, using(crate::proofs::DecideLaws::decides), unfolding(rules::specs::Telnet::negotiated, rules::specs::Telnet::switched_on))]
 fn asked_to(frame: Frame, option: u8) -> Decision
     ensures { (attrs : List ℕ) → Decides (view frame attrs) result (λ v. negotiated v Verb.Do option) }
 {
@@ -92,6 +98,7 @@ fn asked_to(frame: Frame, option: u8) -> Decision
     answered(frame, Verb::Wont, option)
 }
 
+#[tactic(auto, using(crate::proofs::DecideLaws::decides), unfolding(rules::specs::Telnet::negotiated, rules::specs::Telnet::switched_off))]
 fn asked_not_to(frame: Frame, option: u8) -> Decision
     ensures { (attrs : List ℕ) → Decides (view frame attrs) result (λ v. negotiated v Verb.Dont option) }
 {
@@ -103,6 +110,7 @@ fn asked_not_to(frame: Frame, option: u8) -> Decision
     quiet(frame)
 }
 
+#[tactic(auto, using(crate::proofs::DecideLaws::decides), unfolding(rules::specs::Telnet::negotiated))]
 pub fn negotiate(frame: Frame, verb: Verb, option: u8) -> Decision
     ensures { (attrs : List ℕ) → Decides (view frame attrs) result (λ v. negotiated v verb option) }
 {

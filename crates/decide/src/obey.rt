@@ -28,6 +28,7 @@ use rules::{Code, Command, Edition, Facility, Fault, Frame, Governor, Held};
 use telnet::code::{DO, DONT, WILL, WONT};
 
 // The terminal's own map of a class, after its code.
+#[tactic(auto, unfolding(rules::specs::Facility::own_map))]
 fn own_map(edition: Edition, facility: Facility) -> Say
     ensures { (attrs : List ℕ) → (parts_of edition attrs result ≡ message (own_map edition facility) ∷ []) × Sendable attrs result }
 {
@@ -54,6 +55,7 @@ fn own_map(edition: Edition, facility: Facility) -> Say
 }
 
 // 1 to 4: the map received is kept, and the terminal's own answered.
+#[tactic(auto, using(crate::proofs::DecideLaws::decides), unfolding(rules::specs::Subcommand::obeyed))]
 fn facilities(frame: Frame, facility: Facility, held: Held) -> Decision
     ensures { (attrs : List ℕ) → Decides (view frame attrs) result (λ v. obeyed v (Command.Facilities facility) held) }
 {
@@ -85,6 +87,7 @@ fn read_cursor(frame: Frame) -> Decision
 }
 
 // 36: the cells from the cursor on take the attribute byte.
+#[tactic(auto, unfolding(rules::specs::Subcommand::obeyed))]
 fn format_data(frame: Frame, held: Held) -> Decision
     ensures { (attrs : List ℕ) → Decides (view frame attrs) result (λ v. obeyed v Command.FormatData held) }
 {
@@ -102,6 +105,7 @@ fn format_data(frame: Frame, held: Held) -> Decision
 }
 
 // 38: suppress, end it, and the two questions.
+#[tactic(auto, unfolding(rules::specs::Subcommand::suppressing))]
 fn suppress(frame: Frame, parameter: u8) -> Decision
     ensures { (attrs : List ℕ) → Decides (view frame attrs) result (λ v. suppressing v parameter) }
 {
@@ -144,6 +148,7 @@ fn suppress(frame: Frame, parameter: u8) -> Decision
 }
 
 // A command that draws no ERROR.
+#[tactic(auto, using(crate::proofs::ObeyLaws::repeated), unfolding(rules::specs::Subcommand::obeyed))]
 fn obey(frame: Frame, attrs: &[u8], command: Command, held: Held) -> Decision
     requires { Fits (seen frame attrs) }
     ensures { Decides (seen frame attrs.entry) result (λ v. obeyed v command held) }
@@ -189,6 +194,7 @@ fn err(frame: Frame, code: u8, fault: Fault) -> Decision
 }
 
 // A known command: obeyed, or an ERROR, which MOVE CURSOR draws after it has limited.
+#[tactic(auto, using(crate::proofs::DecideLaws::recast, crate::proofs::ObeyLaws::judged_by, crate::proofs::ObeyLaws::errs), unfolding(rules::specs::Subcommand::judged))]
 fn judge(
     frame: Frame,
     attrs: &[u8],
@@ -210,6 +216,7 @@ fn judge(
 }
 
 // A subnegotiation of option 20 that ended while DET is on, with these bytes held.
+#[tactic(auto, using(crate::proofs::DecideLaws::recast, crate::proofs::ObeyLaws::looked_known, crate::proofs::ObeyLaws::looked_unknown), unfolding(rules::specs::Subcommand::subcommand))]
 fn obey_held(frame: Frame, attrs: &[u8], held: Held) -> Decision
     requires { Fits (seen frame attrs) }
     ensures { Decides (seen frame attrs.entry) result (λ v. subcommand v held) }
@@ -232,6 +239,7 @@ fn obey_held(frame: Frame, attrs: &[u8], held: Held) -> Decision
 }
 
 // A subnegotiation that ended: obeyed if it was option 20's and DET is on.
+#[tactic(auto, using(crate::proofs::DecideLaws::decides, crate::proofs::DecideLaws::recast), unfolding(crate::specs::Decision::ended_det))]
 fn end_fitting(frame: Frame, attrs: &[u8], held: Held, option: u8) -> Decision
     requires { Fits (seen frame attrs) }
     ensures { Decides (seen frame attrs.entry) result (λ v. ended_det v held option) }
@@ -246,6 +254,7 @@ fn end_fitting(frame: Frame, attrs: &[u8], held: Held, option: u8) -> Decision
 }
 
 // The same of any frame: nothing is done where the cursor is off the screen or the attribute bytes are not the screen's.
+#[tactic(auto, using(crate::proofs::DecideLaws::fits_found, crate::proofs::DecideLaws::where_fits_lem, crate::proofs::DecideLaws::where_not))]
 pub fn decide_end(frame: Frame, attrs: &[u8], held: Held, option: u8) -> Decision
     ensures { Decides (seen frame attrs.entry) result (where_fits (λ v. ended_det v held option)) }
 {

@@ -16,14 +16,14 @@ use screen::cell::Place;
 use screen::class::takes_typed;
 
 // Who writes a character.
-#[derive(Drop)]
+#[derive(Clone, Copy)]
 pub enum Writer {
     Host,
     Operator,
 }
 
 // What happens to a character.
-#[derive(Drop)]
+#[derive(Clone, Copy)]
 pub enum Fate {
     Written,
     Dropped,
@@ -32,7 +32,7 @@ pub enum Fate {
 }
 
 // A character's fate, and the cursor after it.
-#[derive(Drop)]
+#[derive(Clone, Copy)]
 pub struct Writing {
     pub fate: Fate,
     pub cursor: Place,
@@ -49,6 +49,7 @@ fn class_allows(frame: Frame, attrs: &[u8], byte: u8) -> bool
     takes_typed(attr, byte)
 }
 
+#[tactic(auto, unfolding(crate::specs::Writing::fate_of))]
 pub(crate) fn judge_character(frame: Frame, attrs: &[u8], writer: Writer, byte: u8) -> Fate
     ensures { result ≡ fate_of writer (seen frame attrs.entry) byte }
 {
@@ -74,6 +75,7 @@ pub(crate) fn judge_character(frame: Frame, attrs: &[u8], writer: Writer, byte: 
 }
 
 // Where the cursor goes after a character: to the next cell, or to the next that is not guarded.
+#[tactic(auto, unfolding(rules::specs::Cursor::destination))]
 fn place_after(frame: Frame, attrs: &[u8], writer: Writer) -> Place
     requires { Ready writer (seen frame attrs) }
     ensures { result ≡ place_after writer (seen frame attrs.entry) }
@@ -85,6 +87,7 @@ fn place_after(frame: Frame, attrs: &[u8], writer: Writer) -> Place
 }
 
 // Writes a character at the cursor, or does not, and tells which. All that write go by this: host text, REPEAT and typing.
+#[tactic(auto, using(crate::proofs::WriteLaws::not_moved), unfolding(crate::specs::Writing::after_fate))]
 pub(crate) fn write(frame: Frame, attrs: &[u8], writer: Writer, byte: u8) -> Writing
     requires { Ready writer (seen frame attrs) }
     ensures { Writes (seen frame attrs.entry) writer byte result }
@@ -111,6 +114,7 @@ pub fn write_host(frame: Frame, attrs: &[u8], byte: u8) -> Writing
 }
 
 // Host data that is no character: CR, LF and BS move the cursor, any other byte does nothing. The cursor after it.
+#[tactic(auto, using(words::proofs::Laws::true_or_false), unfolding(crate::specs::Writing::control_of, rules::specs::Telnet::host_data, rules::specs::Cursor::destination))]
 pub fn control(frame: Frame, byte: u8) -> Place
     ensures { (attrs : List ℕ) → control_of (view frame attrs) byte ≡ quiet (view (placed frame result) attrs) }
 {

@@ -19,13 +19,14 @@ use reply::write_reply;
 use rules::{Edition, Frame};
 use text::data::{put_character, set_cell};
 
-#[derive(Drop)]
+#[derive(Clone, Copy)]
 pub struct Applied {
     pub frame: Frame,
     pub written: usize,
 }
 
 // A change other than REPEAT.
+#[tactic(auto, unfolding(rules::specs::Effect::changed, rules::specs::Effect::changed_all))]
 fn change_cells(edit: Edit, chars: &mut [u8], attrs: &[u8])
     ensures { chars.new ≡ changed_all chars.old attrs.now (changes_of edit) }
 {
@@ -48,6 +49,7 @@ fn change_cells(edit: Edit, chars: &mut [u8], attrs: &[u8])
 }
 
 // 37: a host character so many times.
+#[tactic(auto, using(crate::proofs::ApplyLaws::Repeating, crate::proofs::ApplyLaws::repeating_start, crate::proofs::ApplyLaws::repeating_more, crate::proofs::ApplyLaws::repeating_end))]
 fn repeat(frame: Frame, count: u8, byte: u8, chars: &mut [u8], attrs: &[u8]) -> Frame
     ensures { Changes (edited (seen frame attrs.entry) (Edit.Repeat count byte))
         chars.old attrs.now result chars.new }
@@ -63,6 +65,7 @@ fn repeat(frame: Frame, count: u8, byte: u8, chars: &mut [u8], attrs: &[u8]) -> 
 }
 
 // The frame afterwards: REPEAT moves the cursor as it writes.
+#[tactic(auto, using(crate::proofs::ApplyLaws::not_repeat, crate::proofs::ApplyLaws::changes_once))]
 pub(crate) fn change_chars(frame: Frame, edit: Edit, chars: &mut [u8], attrs: &[u8]) -> Frame
     ensures { Changes (edited (seen frame attrs.entry) edit) chars.old attrs.now result chars.new }
 {
@@ -83,6 +86,7 @@ fn format_attrs(change: Format, attrs: &mut [u8])
 }
 
 // A typed character and a shift mark the cells that they write.
+#[tactic(auto, using(edit::proofs::EditLaws::filled_one, crate::proofs::ApplyLaws::marks_none), unfolding(rules::specs::Effect::marks_after))]
 fn mark_edited(edit: Edit, marks: &mut [u8])
     ensures { marks.new ≡ marks_after marks.old (marking_of edit) }
 {
@@ -99,6 +103,7 @@ fn mark_edited(edit: Edit, marks: &mut [u8])
 }
 
 // All marks are cleared, or those of an edit set.
+#[tactic(auto, using(edit::proofs::EditLaws::all_zeros), unfolding(rules::specs::Effect::marks_after))]
 pub(crate) fn mark(clear: bool, edit: Edit, marks: &mut [u8])
     ensures { marks.new ≡ marks_after marks.old (if clear then cleared else marking_of edit) }
 {
@@ -110,6 +115,7 @@ pub(crate) fn mark(clear: bool, edit: Edit, marks: &mut [u8])
 }
 
 // Most decisions say nothing and change no character: those take no call, and no copy of what a call is given.
+#[tactic(auto, using(reply::proofs::WriteLaws::wrote_none))]
 fn say_any(
     edition: Edition,
     say: Say,
@@ -131,6 +137,7 @@ fn say_any(
     }
 }
 
+#[tactic(auto, using(crate::proofs::ApplyLaws::changes_none))]
 fn change_any(frame: Frame, edit: Edit, chars: &mut [u8], attrs: &[u8]) -> Frame
     ensures { Changes (edited (seen frame attrs.entry) edit) chars.old attrs.now result chars.new }
 {
@@ -143,6 +150,7 @@ fn change_any(frame: Frame, edit: Edit, chars: &mut [u8], attrs: &[u8]) -> Frame
     }
 }
 
+#[tactic(auto, using(reply::proofs::ReplyLaws::said, crate::proofs::ApplyLaws::marking_of_lem))]
 pub(crate) fn apply(
     decision: Decision,
     chars: &mut [u8],

@@ -23,6 +23,7 @@ fn is_joining(frame: Frame, lf: bool) -> bool
     !lf
 }
 
+#[tactic(auto, using(screen::proofs::TestLaws::failing, screen::proofs::TestLaws::passing))]
 fn is_passed(frame: Frame, lf: bool, cr: bool, byte: u8) -> bool
     ensures { result ≡ ((line_takes_keys frame && not lf) && (cr && eqb byte 10)) }
 {
@@ -37,6 +38,7 @@ fn is_passed(frame: Frame, lf: bool, cr: bool, byte: u8) -> bool
 }
 
 // One byte of data: the frame after it.
+#[tactic(auto, using(crate::proofs::TakeLaws::data_passed, crate::proofs::TakeLaws::data_obeyed))]
 pub(crate) fn obey_data(
     frame: Frame,
     lf: bool,
@@ -57,7 +59,7 @@ pub(crate) fn obey_data(
 }
 
 // The frame after some data, and whether it ended in a CR.
-#[derive(Drop)]
+#[derive(Clone, Copy)]
 pub struct DataTurn {
     pub frame: Frame,
     pub cr: bool,

@@ -23,6 +23,7 @@ use rules::{Answer, Frame, Refusal, Session};
 use telnet::Phase;
 
 // Does the reader stand in a message of option 30? Those go a byte at a time.
+#[tactic(auto, using(crate::proofs::MessageLaws::in_none), unfolding(crate::specs::Inner::Take::in_message))]
 fn in_message(phase: Phase) -> bool
     ensures { result ≡ in_message phase }
 {
@@ -34,6 +35,7 @@ fn in_message(phase: Phase) -> bool
 }
 
 // Host bytes that are not refused: taken from the front while there are any and the reply buffer has room for one more reply.
+#[tactic(auto, using(rules::proofs::Running::taken_end, rules::proofs::Running::taken_full, local::proofs::ToldLaws::other_clears, crate::proofs::HostLaws::accepts_turn, crate::proofs::HostLaws::taking_none, crate::proofs::HostLaws::taking_then, crate::proofs::HostLaws::taking_room, crate::proofs::HostLaws::taking_accepts, crate::proofs::HostLaws::taking_done, crate::proofs::MessageLaws::message_taking))]
 fn take_all(
     session: Session,
     input: &[u8],
@@ -98,6 +100,7 @@ fn take_all(
 }
 
 // The refusals of the key itself: 10 where the edit line takes it, else 9, 8, 6 and 7.
+#[tactic(auto, using(crate::proofs::KeyLaws::line_refusal, crate::proofs::KeyLaws::meaning_refusal))]
 fn refuse_press(session: Session, code: u8, attrs: &[u8]) -> Refusal
     ensures { (chars marks : List ℕ)
         → result ≡ verdict (press_tests (state session (screen chars attrs.now marks)) code) }
@@ -112,6 +115,7 @@ fn refuse_press(session: Session, code: u8, attrs: &[u8]) -> Refusal
 }
 
 // Refusals 1 to 5 and 11, then the key's own.
+#[tactic(auto, using(command::proofs::RefusalLaws::not_taken, crate::proofs::KeyLaws::refused_first, crate::proofs::KeyLaws::refused_last))]
 fn refuse_key(
     session: Session,
     code: u8,
@@ -143,6 +147,7 @@ fn with_frame(before: Session, frame: Frame) -> Session
 }
 
 // A key that is not refused and that the edit line does not take.
+#[tactic(auto, using(crate::proofs::KeyLaws::key_settled))]
 fn take_meaning(
     session: Session,
     code: u8,
@@ -174,6 +179,7 @@ fn take_meaning(
 }
 
 // A key that is not refused and that the edit line takes.
+#[tactic(auto, using(crate::proofs::KeyLaws::line_settled))]
 fn take_line(
     session: Session,
     code: u8,
@@ -224,6 +230,7 @@ fn take_key(
 }
 
 // Bytes from the host. The answer counts those taken from the input's front, and the reply bytes.
+#[tactic(auto, using(command::proofs::RefusalLaws::not_taken, admit::proofs::SettleLaws::settled_refused, admit::proofs::SettleLaws::settled_done, crate::proofs::TakeLaws::accepts_start), unfolding(rules::specs::Operation::host_bytes))]
 pub fn host_bytes(
     session: Session,
     input: &[u8],
@@ -243,6 +250,7 @@ pub fn host_bytes(
 }
 
 // One key of the operator.
+#[tactic(auto, using(command::proofs::RefusalLaws::not_taken, admit::proofs::SettleLaws::settled_refused, admit::proofs::SettleLaws::settled_done), unfolding(rules::specs::Operation::one_key))]
 pub fn key(
     session: Session,
     code: u8,

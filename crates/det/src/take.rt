@@ -23,7 +23,7 @@ use telnet::{Event, Phase, read};
 
 // Where some bytes leave the frame and the reader, what was told last, where they end in the input, and where the next reply goes. The
 // PAD is left to the caller, who tells it: it is large, and a turn is short.
-#[derive(Drop)]
+#[derive(Clone, Copy)]
 pub struct Turn {
     pub frame: Frame,
     pub reader: Reader,
@@ -33,6 +33,7 @@ pub struct Turn {
 }
 
 // What is done on an event other than data that ends no message of option 30.
+#[tactic(auto, using(decide::proofs::DecideLaws::decides, decide::proofs::DecideLaws::recast, decide::proofs::DecideLaws::fits_rule, crate::proofs::TakeLaws::idle), unfolding(crate::specs::Inner::Data::told_effect))]
 fn decide_event(frame: Frame, attrs: &[u8], held: Held, event: Event) -> Decision
     requires { Fits (seen frame attrs) }
     ensures { Decides (seen frame attrs.entry) result (λ v. told_effect v held event) }
@@ -51,6 +52,7 @@ fn decide_event(frame: Frame, attrs: &[u8], held: Held, event: Event) -> Decisio
 }
 
 // Does what an event asks for that ends no message of option 30. `held` and `cr` are as before it.
+#[tactic(auto, using(crate::proofs::TakeLaws::decided_sayable, crate::proofs::TakeLaws::decided_applies, crate::proofs::TakeLaws::not_data, crate::proofs::TakeLaws::data_applies), unfolding(crate::specs::Inner::Data::det_effect))]
 fn happen(
     frame: Frame,
     lf: bool,
@@ -84,7 +86,7 @@ fn happen(
 }
 
 // What is told next: `held` is what was held before it, `reader` stands after it, at `next`.
-#[derive(Drop)]
+#[derive(Clone, Copy)]
 pub struct Told {
     pub event: Event,
     pub held: Held,
@@ -93,6 +95,7 @@ pub struct Told {
 }
 
 // The byte before `next`, asked of the reader.
+#[tactic(auto, unfolding(crate::specs::Inner::Take::told_of))]
 fn told_byte(reader: Reader, byte: u8, next: usize) -> Told
     ensures { result ≡ told_of reader byte next }
 {
@@ -114,6 +117,7 @@ fn told_byte(reader: Reader, byte: u8, next: usize) -> Told
 }
 
 // A whole subnegotiation tells its end, but one of option 30 goes a byte at a time; any other byte is asked of the reader.
+#[tactic(auto, using(telnet::proofs::AheadLaws::ahead_stands, crate::proofs::QuietLaws::told_whole, crate::proofs::QuietLaws::told_next))]
 fn told_at(reader: Reader, input: &[u8], from: usize) -> Told
     requires phase_value { in_message reader.phase ≡ false }
     requires from_in_bounds { from < length input.now }
@@ -147,6 +151,7 @@ fn told_at(reader: Reader, input: &[u8], from: usize) -> Told
 }
 
 // A whole subnegotiation, or one byte.
+#[tactic(auto, using(crate::proofs::HostLaws::told_answerable, crate::proofs::HostLaws::told_turns))]
 fn take_told(
     frame: Frame,
     reader: Reader,
@@ -184,6 +189,7 @@ fn take_told(
 }
 
 // At rest: the data up to the next IAC, and that IAC.
+#[tactic(auto, using(crate::proofs::QuietLaws::lies, crate::proofs::QuietLaws::text_turn, crate::proofs::QuietLaws::joins_by))]
 fn take_text(
     frame: Frame,
     reader: Reader,
@@ -219,6 +225,7 @@ fn take_text(
 }
 
 // In the subnegotiation of this option: its bytes up to the next IAC, and that IAC.
+#[tactic(auto, using(crate::proofs::QuietLaws::lies, crate::proofs::QuietLaws::payload_turn, crate::proofs::QuietLaws::inside_other))]
 fn take_payload(
     option: u8,
     frame: Frame,
@@ -251,6 +258,7 @@ fn take_payload(
 }
 
 // The stretch that the reader stands in, if it stands in one. It draws no reply.
+#[tactic(auto, using(crate::proofs::QuietLaws::run_none))]
 fn take_stretch(
     frame: Frame,
     reader: Reader,
@@ -281,6 +289,7 @@ fn take_stretch(
 }
 
 // A stretch, and what is told after it.
+#[tactic(auto, using(crate::proofs::HostLaws::stretch_accepts, crate::proofs::HostLaws::stretch_outside, crate::proofs::HostLaws::stretch_onward, crate::proofs::HostLaws::stretch_turns, crate::proofs::HostLaws::then_turns))]
 pub(crate) fn take_turn(
     frame: Frame,
     reader: Reader,

@@ -16,6 +16,7 @@ use rules::Answer;
 const NO_SESSION: u8 = 255;
 
 // Writes the answer's session, and returns its number.
+#[tactic(auto, using(layout::proofs::LayoutLaws::stored_there))]
 fn tell(answer: Answer, session: &mut [u8]) -> u8
     requires { length session.old ≡ session_length }
     ensures* r_value { λ r. ⌜ r ≡ number_of answer.refusal ⌝ }
@@ -55,6 +56,7 @@ fn key_byte(code: u32) -> u8
 
 // Open, in the edition of this number. The session's place is of a session's length, whatever stands there.
 #[unsafe(no_mangle)]
+#[tactic(auto, using(crate::proofs::CallLaws::open_none, crate::proofs::CallLaws::open_done))]
 pub extern "C" fn det_open(
     width: usize,
     height: usize,
@@ -76,6 +78,7 @@ pub extern "C" fn det_open(
 
 // Host bytes.
 #[unsafe(no_mangle)]
+#[tactic(auto, using(screen::proofs::TestLaws::passing, layout::proofs::LayoutLaws::session_length_lem, crate::proofs::CallLaws::host_none, crate::proofs::CallLaws::host_done))]
 pub extern "C" fn det_host(
     session: &mut [u8],
     input: &[u8],
@@ -100,6 +103,7 @@ pub extern "C" fn det_host(
 
 // One key, by its number.
 #[unsafe(no_mangle)]
+#[tactic(auto, using(screen::proofs::TestLaws::passing, layout::proofs::LayoutLaws::session_length_lem, crate::proofs::CallLaws::key_none, crate::proofs::CallLaws::key_done))]
 pub extern "C" fn det_key(
     session: &mut [u8],
     code: u32,

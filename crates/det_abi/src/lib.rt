@@ -1,2 +1,4 @@
 // The three operations for programs in other languages: numbers and byte slices only.
+#![tactic(auto)]
+
 pub mod calls;

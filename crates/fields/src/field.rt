@@ -7,7 +7,7 @@ use screen::field::field_end;
 use screen::record::FieldRecord;
 
 // The field that starts at a cell, and the cell after it.
-#[derive(Drop)]
+#[derive(Clone, Copy)]
 pub struct Next {
     pub field: FieldRecord,
     pub end: usize,
@@ -47,6 +47,7 @@ fn record_of(start: usize, end: usize) -> FieldRecord
 }
 
 // Most records of a list stand behind the last field: those are answered at once.
+#[tactic(auto, using(screen::proofs::FieldLaws::end_le, screen::proofs::FieldListLaws::past_end))]
 pub(crate) fn next_field(attrs: &[u8], cell: usize) -> Next
     requires { length attrs.now ≤ 8448 }
     ensures { result ≡ next_field attrs.now cell }

@@ -2,6 +2,8 @@
 // a cell in, and the list written anew. Nothing here asks anything of its caller.
 // The slice of records is looked into in three places: `scan_list` and `rest_unused` read it, `rebuild` writes it. Those, and the two
 // functions that pass it on, are proved by walks of their code; the others as everywhere.
+#![tactic(auto)]
+
 pub mod check;
 mod field;
 pub mod query;

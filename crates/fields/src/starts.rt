@@ -15,6 +15,7 @@ fn starts_here(before: u8, here: u8) -> u8
 
 // How many fields start from `from` up to `end`. A byte is wide enough for a block, and the loop has one way out, so that the
 // compiler tests and counts sixteen cells at once.
+#[tactic(auto, using(crate::proofs::CountLaws::starts_next))]
 fn starts_in_block(attrs: &[u8], from: usize, end: usize) -> u8
     requires { (0 < from) × (from ≤ end) × (end ≤ from + 128) × (end ≤ length attrs.now) }
     ensures { starts_before attrs.now from + result ≡ starts_before attrs.now end }
@@ -40,6 +41,7 @@ fn block_end(cell: usize, cells: usize) -> usize
 }
 
 // A field starts at the first cell, if there is one.
+#[tactic(auto, using(crate::proofs::CountLaws::first_starts, crate::proofs::CountLaws::starts_few), unfolding(crate::specs::Inner::Starts::starts_before))]
 pub(crate) fn count_starts(attrs: &[u8]) -> usize
     ensures { result ≡ starts_before attrs.now (length attrs.now) }
 {

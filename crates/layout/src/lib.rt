@@ -1,5 +1,7 @@
 // A session as a byte string: 212 bytes that the caller keeps. The table at the head of specs/Layout.antt says what stands where.
 // The three functions ask nothing of their caller.
+#![tactic(auto)]
+
 ghost use Rattle.std.specs.Prelude.{◌≡◌};
 ghost use Rattle.layout.specs.Layout.{is_session, decoded, stored};
 
@@ -20,6 +22,7 @@ pub const SESSION_LENGTH: usize = 212;
 pub(crate) const VERSION: u8 = 4;
 
 // Are the bytes those of a session?
+#[tactic(auto, using(crate::proofs::Kit::sym, crate::proofs::Kit::needs, crate::proofs::Kit::ne_eqb), unfolding(crate::specs::Layout::is_session))]
 pub fn is_session(bytes: &[u8]) -> bool
     ensures { result ≡ is_session bytes.now }
 {
@@ -47,6 +50,7 @@ pub fn decode(bytes: &[u8]) -> Session
 }
 
 // Writes the session's bytes over those that are there. A place of another length is left as it is.
+#[tactic(auto, using(crate::proofs::Kit::sym, crate::proofs::Kit::needs, crate::proofs::LayoutLaws::stored_elsewhere, crate::proofs::CopyLaws::session_stored))]
 pub fn encode(session: Session, bytes: &mut [u8])
     ensures { bytes.new ≡ stored session bytes.old }
 {

@@ -28,6 +28,7 @@ fn is_answered(frame: Frame, pad: Pad, option: u8) -> bool
 }
 
 // RESPONSE-IS where it is asked for: the place after it.
+#[tactic(auto, using(reply::proofs::WriteLaws::wrote_none), unfolding(crate::specs::Message::answer_pieces))]
 fn answer_end(frame: Frame, pad: Pad, option: u8, reply: &mut [u8], at: usize) -> usize
     ensures { Wrote reply.old at (answer_pieces frame pad (Event.End option)) reply.new result }
 {
@@ -39,6 +40,7 @@ fn answer_end(frame: Frame, pad: Pad, option: u8, reply: &mut [u8], at: usize) -
     at
 }
 
+#[tactic(auto, using(crate::proofs::MessageLaws::unanswered))]
 fn answer(frame: Frame, pad: Pad, event: Event, reply: &mut [u8], at: usize) -> usize
     ensures { Wrote reply.old at (answer_pieces frame pad event) reply.new result }
 {
@@ -64,7 +66,7 @@ fn read_on(reader: Reader, next: u8) -> Reader
 }
 
 // Where a byte leaves the PAD, and where the next reply goes.
-#[derive(Drop)]
+#[derive(Clone, Copy)]
 pub struct PadTurn {
     pub reader: Reader,
     pub pad: Pad,

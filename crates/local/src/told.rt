@@ -81,6 +81,7 @@ fn ended_values(frame: Frame, pad: Pad, option: u8) -> Values
     values
 }
 
+#[tactic(auto, unfolding(rules::specs::Pad::empties))]
 fn is_emptied(frame: Frame, verb: Verb, option: u8) -> bool
     ensures { result ≡ empties frame verb option }
 {
@@ -103,6 +104,7 @@ fn negotiated_pad(frame: Frame, pad: Pad, verb: Verb, option: u8) -> Pad
     pad
 }
 
+#[tactic(auto, unfolding(rules::specs::Pad::pad_after))]
 fn ended_pad(frame: Frame, pad: Pad, option: u8) -> Pad
     ensures { result ≡ pad_after frame pad (Event.End option) }
 {
@@ -116,6 +118,7 @@ fn ended_pad(frame: Frame, pad: Pad, option: u8) -> Pad
 }
 
 // Is it the end of a subnegotiation of another option? Then nothing of a message is half read, and the PAD is otherwise as before.
+#[tactic(auto, using(crate::proofs::ToldLaws::ends_no_other), unfolding(crate::specs::Told::ends_other))]
 pub fn ends_other(event: Event) -> bool
     ensures { result ≡ ends_other event }
 {
@@ -126,6 +129,7 @@ pub fn ends_other(event: Event) -> bool
 }
 
 // The PAD afterwards.
+#[tactic(auto, unfolding(rules::specs::Pad::pad_after))]
 pub fn pad_told(frame: Frame, pad: Pad, event: Event) -> Pad
     ensures { result ≡ pad_after frame pad event }
 {

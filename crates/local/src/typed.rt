@@ -19,6 +19,7 @@ use typing::key::{line_after, overfills};
 use typing::out::write_out;
 
 // Does the line take the key: option 30 on, DET off, and 0 to 127?
+#[tactic(auto, using(words::proofs::Laws::and_off))]
 pub fn takes_key(frame: Frame, code: u8) -> bool
     ensures { result ≡ takes_key frame code }
 {
@@ -32,6 +33,7 @@ pub fn takes_key(frame: Frame, code: u8) -> bool
 }
 
 // Refusal 10.
+#[tactic(auto, unfolding(rules::specs::Refusal::verdict, rules::specs::Pad::line_tests))]
 pub fn refuse_line(pad: Pad, code: u8) -> Refusal
     ensures { result ≡ verdict (line_tests pad code) }
 {
@@ -45,6 +47,7 @@ pub fn refuse_line(pad: Pad, code: u8) -> Refusal
 }
 
 // An echo, written as host text: the frame after it.
+#[tactic(auto, using(text::proofs::TextLaws::texted_none, text::proofs::TextLaws::texted_more, text::proofs::TextLaws::texted_all))]
 fn write_echo(frame: Frame, echo: Echo, line: EditLine, chars: &mut [u8], attrs: &[u8]) -> Frame
     ensures { Changes (host_text (seen frame attrs.entry) (bytes_of echo (text_of line)))
         chars.old attrs.now result chars.new }
@@ -62,6 +65,7 @@ fn write_echo(frame: Frame, echo: Echo, line: EditLine, chars: &mut [u8], attrs:
 }
 
 // What is echoed at a key, written as host text: the frame after it.
+#[tactic(auto, unfolding(typing::specs::Echo::echo_of))]
 pub fn echo_key(frame: Frame, pad: Pad, code: u8, chars: &mut [u8], attrs: &[u8]) -> Frame
     ensures { Changes (host_text (seen frame attrs.entry) (echoed_at pad code))
         chars.old attrs.now result chars.new }
@@ -82,6 +86,7 @@ pub fn send_line(pad: Pad, code: u8, reply: &mut [u8]) -> usize
 }
 
 // The PAD after a key.
+#[tactic(auto, unfolding(rules::specs::Pad::pad_typed))]
 pub fn type_key(pad: Pad, code: u8) -> Pad
     ensures { result ≡ pad_typed pad code }
 {

@@ -14,7 +14,7 @@ const MARK: u8 = 1;
 const REPLY: u8 = 0xa5;
 
 // The last call's answer, whose session is the one in use, and the lengths of the buffers: no reply buffer for `open`.
-#[derive(Drop)]
+#[derive(Clone, Copy)]
 pub struct Desk {
     pub answer: Answer,
     pub chars: usize,

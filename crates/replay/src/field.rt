@@ -6,7 +6,7 @@ use crate::source::{Byte, Source};
 use crate::{hex, source};
 
 // What a field says: a number, or how many bytes it has. That of a bad field is 0.
-#[derive(Drop)]
+#[derive(Clone, Copy)]
 pub struct Field {
     pub source: Source,
     pub value: usize,

@@ -1,4 +1,6 @@
 // Replays a script of calls from standard input, one a line, and prints one line for each (docs/REPLAY.md).
+#![tactic(auto)]
+
 mod desk;
 mod field;
 mod hex;
@@ -21,7 +23,7 @@ type Screen = [u8; 8448];
 type Reply = [u8; 80000];
 
 // What is kept from line to line besides the buffers, and whether there is another line to read.
-#[derive(Drop)]
+#[derive(Clone, Copy)]
 struct State {
     desk: Desk,
     source: Source,

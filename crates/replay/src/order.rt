@@ -13,7 +13,7 @@ const INPUT: usize = 65_536;
 const ROOM: usize = 80_000;
 
 // What is on or off in the session.
-#[derive(Drop)]
+#[derive(Clone, Copy)]
 pub enum Switch {
     Det,
     Suppress,
@@ -21,7 +21,7 @@ pub enum Switch {
 }
 
 // What is set in the session without a call.
-#[derive(Drop)]
+#[derive(Clone, Copy)]
 pub enum Setting {
     Cursor { x: u8, y: u8 },
     Held(u8),
@@ -29,7 +29,7 @@ pub enum Setting {
 }
 
 // A call with lent buffers.
-#[derive(Drop)]
+#[derive(Clone, Copy)]
 pub enum Call {
     Open {
         width: usize,
@@ -40,7 +40,7 @@ pub enum Call {
     Key(u8),
 }
 
-#[derive(Drop)]
+#[derive(Clone, Copy)]
 pub enum Order {
     Open {
         width: usize,
@@ -69,14 +69,14 @@ pub enum Order {
 }
 
 // The line's order, and where the next line begins.
-#[derive(Drop)]
+#[derive(Clone, Copy)]
 pub struct Parsed {
     pub source: Source,
     pub order: Order,
 }
 
 // The lengths of the screen's buffers, and what follows them in the line.
-#[derive(Drop)]
+#[derive(Clone, Copy)]
 struct Lengths {
     source: Source,
     chars: usize,
@@ -84,7 +84,7 @@ struct Lengths {
     marks: usize,
 }
 
-#[derive(Drop)]
+#[derive(Clone, Copy)]
 enum Word {
     Open,
     Chars,

@@ -4,7 +4,7 @@ use crate::number::least;
 use libc::STDOUT_FILENO;
 
 // How many bytes the block holds that are still to be written, and whether a write has failed.
-#[derive(Drop)]
+#[derive(Clone, Copy)]
 pub struct Sink {
     pub length: usize,
     pub failed: bool,

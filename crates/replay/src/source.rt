@@ -3,7 +3,7 @@
 use libc::STDIN_FILENO;
 
 // Where the reader stands.
-#[derive(Drop)]
+#[derive(Clone, Copy)]
 pub enum Stand {
     // in a line
     Line,
@@ -18,7 +18,7 @@ pub enum Stand {
 }
 
 // The block's bytes from `at` up to `end` are still to be handed out.
-#[derive(Drop)]
+#[derive(Clone, Copy)]
 pub struct Source {
     pub at: usize,
     pub end: usize,
@@ -26,13 +26,13 @@ pub struct Source {
 }
 
 // A byte of a field, or the field's end.
-#[derive(Drop)]
+#[derive(Clone, Copy)]
 pub enum Byte {
     Is(u8),
     End,
 }
 
-#[derive(Drop)]
+#[derive(Clone, Copy)]
 pub struct Next {
     pub source: Source,
     pub byte: Byte,

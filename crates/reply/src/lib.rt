@@ -1,5 +1,7 @@
 // Replies, written into the lent buffer from a place on. Each function returns the place after what it wrote. A piece that does not
 // fit is left out: nothing is asked of the caller.
+#![tactic(auto)]
+
 ghost use Rattle.reply.specs.Written.{Wrote};
 ghost use Rattle.reply.specs.Pieces.{say_pieces};
 
@@ -20,6 +22,7 @@ mod single;
 mod transmission;
 
 // What is said, with the codes of an edition, written from the characters and the marks as they are.
+#[tactic(auto, using(crate::proofs::WriteLaws::wrote_none))]
 pub fn write_reply(
     edition: Edition,
     say: Say,

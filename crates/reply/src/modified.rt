@@ -10,6 +10,7 @@ use screen::cell::place_of;
 use screen::field::field_end;
 
 // A field behind a preface of its own, if one of its cells is marked.
+#[tactic(auto, using(crate::proofs::WriteLaws::wrote_none))]
 fn put_marked(
     chars: &[u8],
     marks: &[u8],
@@ -31,6 +32,7 @@ fn put_marked(
 }
 
 // Every such field: no separators, and nothing at all where there is none.
+#[tactic(auto, using(crate::proofs::WriteLaws::writing_length, crate::proofs::WriteLaws::to_further, crate::proofs::ModifiedLaws::Modifying, crate::proofs::ModifiedLaws::modifying_start, crate::proofs::ModifiedLaws::modifying_more, crate::proofs::ModifiedLaws::modifying_all))]
 pub(crate) fn put_modified(
     chars: &[u8],
     attrs: &[u8],

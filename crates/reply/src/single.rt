@@ -24,6 +24,7 @@ fn opens_between(before: u8, here: u8) -> bool
 }
 
 // Does one start at each of the thirty-two cells after this one? The loop has one way out, so that the compiler tests many at once.
+#[tactic(auto, using(words::proofs::Laws::and_left, words::proofs::Laws::and_right, crate::proofs::SingleLaws::open_none, crate::proofs::SingleLaws::open_next))]
 fn each_opens(attrs: &[u8], cell: usize) -> bool
     requires { cell + 33 ≤ length attrs.now }
     ensures { result ≡ true → EachOpens attrs.now cell 32 }
@@ -39,6 +40,7 @@ fn each_opens(attrs: &[u8], cell: usize) -> bool
 }
 
 // Do so many lie in `len` from `from` on?
+#[tactic(auto, using(words::proofs::Laws::not_both))]
 fn reaches(len: usize, from: usize, count: usize) -> bool
     ensures { result ≡ true → from + count ≤ len }
 {
@@ -49,6 +51,7 @@ fn reaches(len: usize, from: usize, count: usize) -> bool
 }
 
 // Do thirty-two such fields start at the cell, none of them the first of all, and do they fit?
+#[tactic(auto, using(words::proofs::Laws::not_both))]
 pub(crate) fn are_singles(
     chars: usize,
     attrs: &[u8],
@@ -78,6 +81,7 @@ pub(crate) fn are_singles(
 }
 
 // A separator and one character.
+#[tactic(auto, using(crate::proofs::ReplyLaws::joined, crate::proofs::ReplyLaws::wrote_as, crate::proofs::ReplyLaws::wrote_emitted, crate::proofs::SingleLaws::one_text), unfolding(crate::specs::Pieces::doubled_pieces))]
 fn put_single(chars: &[u8], reply: &mut [u8], cell: usize, at: usize, code: u8) -> usize
     requires cell_in_bounds { (cell < length chars.now) × (at + 7 ≤ length reply.old) }
     requires code_value { eqb code 255 ≡ false }
@@ -88,6 +92,7 @@ fn put_single(chars: &[u8], reply: &mut [u8], cell: usize, at: usize, code: u8) 
 }
 
 // The thirty-two fields from the cell on.
+#[tactic(auto, using(crate::proofs::SingleLaws::WritingSingles, crate::proofs::SingleLaws::ones_start, crate::proofs::SingleLaws::ones_length, crate::proofs::SingleLaws::ones_more, crate::proofs::SingleLaws::ones_all))]
 pub(crate) fn put_singles(chars: &[u8], reply: &mut [u8], cell: usize, at: usize, code: u8) -> usize
     requires cell_in_bounds { (cell + 32 ≤ length chars.now) × (at + 224 ≤ length reply.old) }
     requires code_value { eqb code 255 ≡ false }

@@ -1,5 +1,7 @@
 // The types of the terminal: the session, what its operations answer, options, commands and keys by meaning.
 // The rules of documents 01 and 02 are definitions over them, in specs/; this crate has no code.
+#![tactic(auto)]
+
 use edit::range::Shift;
 use pad::line::EditLine;
 use pad::message::Message;
@@ -8,14 +10,14 @@ use screen::cell::Place;
 use telnet::Phase;
 
 // The first bytes of a subnegotiation after its option byte, and how many they are: the count stops at 6.
-#[derive(Drop)]
+#[derive(Clone, Copy)]
 pub struct Held {
     pub bytes: [u8; 6],
     pub count: u8,
 }
 
 // Facility maps, a byte for each class and two for formatting.
-#[derive(Drop)]
+#[derive(Clone, Copy)]
 pub struct Maps {
     pub edit: u8,
     pub erase: u8,
@@ -25,7 +27,7 @@ pub struct Maps {
 }
 
 // The edition of the protocol, which says what code a command has: RFC 731 (June), or RFC 732 (September).
-#[derive(Drop)]
+#[derive(Clone, Copy)]
 pub enum Edition {
     June,
     September,
@@ -33,7 +35,7 @@ pub enum Edition {
 
 // What the rules go by: the screen's size, the edition, the cursor, which options are on, protection suppressed or in effect, and the maps
 // received in the latest facility command of each class.
-#[derive(Drop)]
+#[derive(Clone, Copy)]
 pub struct Frame {
     pub width: u8,
     pub height: u8,
@@ -46,7 +48,7 @@ pub struct Frame {
 }
 
 // How far the host's bytes are read: where the reader stands, what is held, and whether the last byte of data was a CR.
-#[derive(Drop)]
+#[derive(Clone, Copy)]
 pub struct Reader {
     pub phase: Phase,
     pub held: Held,
@@ -54,7 +56,7 @@ pub struct Reader {
 }
 
 // What the X.3 PAD keeps: its parameters' values, the edit line, and the message of option 30 as far as it is read.
-#[derive(Drop)]
+#[derive(Clone, Copy)]
 pub struct Pad {
     pub values: Values,
     pub line: EditLine,
@@ -62,7 +64,7 @@ pub struct Pad {
 }
 
 // All that is kept between two calls, besides the lent buffers.
-#[derive(Drop)]
+#[derive(Clone, Copy)]
 pub struct Session {
     pub frame: Frame,
     pub reader: Reader,
@@ -70,7 +72,7 @@ pub struct Session {
 }
 
 // A Telnet option by its meaning.
-#[derive(Drop)]
+#[derive(Clone, Copy)]
 pub enum TelnetOption {
     Det,
     X3,
@@ -78,7 +80,7 @@ pub enum TelnetOption {
 }
 
 // Why a call is refused; `Taken` where it is not.
-#[derive(Drop)]
+#[derive(Clone, Copy)]
 pub enum Refusal {
     Taken,
     Size,
@@ -96,7 +98,7 @@ pub enum Refusal {
 }
 
 // What each operation answers.
-#[derive(Drop)]
+#[derive(Clone, Copy)]
 pub struct Answer {
     pub session: Session,
     pub refusal: Refusal,
@@ -105,7 +107,7 @@ pub struct Answer {
 }
 
 // The classes of facilities that 1 to 4 ask about.
-#[derive(Drop)]
+#[derive(Clone, Copy)]
 pub enum Facility {
     Editing,
     Erasing,
@@ -114,7 +116,7 @@ pub enum Facility {
 }
 
 // Where the cursor goes.
-#[derive(Drop)]
+#[derive(Clone, Copy)]
 pub enum Destination {
     // one step, none at the edge
     Up,
@@ -134,7 +136,7 @@ pub enum Destination {
 }
 
 // What a transmission or an erasure covers.
-#[derive(Drop)]
+#[derive(Clone, Copy)]
 pub enum Area {
     WholeScreen,
     Unprotected,
@@ -146,7 +148,7 @@ pub enum Area {
 }
 
 // A subcommand by its meaning.
-#[derive(Drop)]
+#[derive(Clone, Copy)]
 pub enum Command {
     Facilities(Facility),
     // to the place that its parameters name
@@ -170,7 +172,7 @@ pub enum Command {
 }
 
 // What governs a subcommand: the bit of this weight in a class's map, or none.
-#[derive(Drop)]
+#[derive(Clone, Copy)]
 pub enum Governor {
     Ungoverned,
     EditBit(u8),
@@ -181,7 +183,7 @@ pub enum Governor {
 }
 
 // What the list of subcommands says of a code: what it means, how many parameters it takes, and what governs it.
-#[derive(Drop)]
+#[derive(Clone, Copy)]
 pub enum Code {
     Known {
         command: Command,
@@ -192,7 +194,7 @@ pub enum Code {
 }
 
 // The ERROR that a subcommand draws, if any.
-#[derive(Drop)]
+#[derive(Clone, Copy)]
 pub enum Fault {
     NoFault,
     NotAgreed,
@@ -205,7 +207,7 @@ pub enum Fault {
 }
 
 // A key by its meaning.
-#[derive(Drop)]
+#[derive(Clone, Copy)]
 pub enum Key {
     Typed(u8),
     Back,

@@ -5,13 +5,13 @@ ghost use Rattle.screen.specs.Cells.{cell_of, on_screen, line_start, line_end, p
 
 use crate::number::wide;
 
-#[derive(Drop)]
+#[derive(Clone, Copy)]
 pub struct Column(pub u8);
 
-#[derive(Drop)]
+#[derive(Clone, Copy)]
 pub struct Line(pub u8);
 
-#[derive(Drop)]
+#[derive(Clone, Copy)]
 pub struct Place {
     pub x: Column,
     pub y: Line,
@@ -25,6 +25,7 @@ pub fn on_screen(width: u8, height: u8, place: Place) -> bool
 }
 
 // The first cell of a line.
+#[tactic(auto, using(crate::proofs::Kit::arith, crate::proofs::Kit::needs, crate::proofs::CellLaws::byte_product))]
 pub fn line_start(width: u8, y: Line) -> usize
     ensures { result ≡ line_start width y }
 {
@@ -32,12 +33,14 @@ pub fn line_start(width: u8, y: Line) -> usize
 }
 
 // The cell after a line's last.
+#[tactic(auto, using(crate::proofs::Kit::arith, crate::proofs::Kit::needs, crate::proofs::CellLaws::byte_product))]
 pub fn line_end(width: u8, y: Line) -> usize
     ensures { result ≡ line_end width y }
 {
     line_start(width, y) + wide(width)
 }
 
+#[tactic(auto, using(crate::proofs::Kit::arith, crate::proofs::Kit::needs, crate::proofs::CellLaws::byte_product))]
 pub fn cell_of(width: u8, place: Place) -> usize
     ensures { result ≡ cell_of width place }
 {
@@ -45,6 +48,7 @@ pub fn cell_of(width: u8, place: Place) -> usize
     line_start(width, y) + wide(place.x.0)
 }
 
+#[tactic(auto, using(crate::proofs::Kit::arith, crate::proofs::Kit::needs, crate::proofs::CellLaws::place_on_screen), unfolding(crate::specs::Cells::place_or_origin))]
 pub fn place_of(width: u8, cell: usize) -> Place
     ensures { result ≡ place_or_origin width cell }
 {

@@ -3,14 +3,14 @@
 
 // A field: its first cell, and how many cells it has. Both are 0 in a record behind the last field.
 #[repr(C)]
-#[derive(Drop)]
+#[derive(Clone, Copy)]
 pub struct FieldRecord {
     pub start: u32,
     pub length: u32,
 }
 
 // The unprotected field that a cell is in: its number among the unprotected fields, from 1, and its record.
-#[derive(Drop)]
+#[derive(Clone, Copy)]
 pub enum Found {
     In(usize, FieldRecord),
     InNone,

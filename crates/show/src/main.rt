@@ -1,5 +1,7 @@
 // Reads host bytes from standard input to its end, on a screen of 8 by 2, and prints where they leave the
 // terminal: the cursor, the two lines, and how many reply bytes they drew. (Document 01, worked forms: `show`.)
+#![tactic(auto)]
+
 ghost use Rattle.std.specs.Prelude.{◌<◌, ◌≤◌, length};
 
 use libc::{STDERR_FILENO, STDIN_FILENO, STDOUT_FILENO};
@@ -14,7 +16,7 @@ const HEIGHT: usize = 2;
 const SEPTEMBER: usize = 732;
 
 // Where standard input stands.
-#[derive(Drop)]
+#[derive(Clone, Copy)]
 enum Input {
     Open,
     Ended,
@@ -22,21 +24,21 @@ enum Input {
 }
 
 // The session, and how many reply bytes all calls have written.
-#[derive(Drop)]
+#[derive(Clone, Copy)]
 struct Run {
     session: Session,
     replies: u64,
 }
 
 // What one call leaves, and where in the input the next begins.
-#[derive(Drop)]
+#[derive(Clone, Copy)]
 struct Step {
     run: Run,
     at: usize,
 }
 
 // What one read of standard input leaves.
-#[derive(Drop)]
+#[derive(Clone, Copy)]
 struct Turn {
     run: Run,
     input: Input,

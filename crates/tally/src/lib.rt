@@ -1,5 +1,7 @@
 // Counts what a Telnet stream holds, from a reader at rest. It is the reader used by itself: no screen, no option's meaning.
 // Stretches of data and of payload are taken at once, and so are whole subnegotiations; the reader is asked about the other bytes.
+#![tactic(auto)]
+
 ghost use Rattle.std.specs.Prelude.{◌≡◌, ◌+◌, ◌≤◌, ◌<◌, ◌^◌, length};
 ghost use Rattle.telnet.specs.declared.Phase.TheVariants.{Rest, Inside};
 ghost use Rattle.telnet.specs.Stream.{events_of};
@@ -11,7 +13,7 @@ use telnet::stretch::{data_at, payload_at};
 use telnet::{Event, Phase, read};
 
 // How many events of each kind.
-#[derive(Drop)]
+#[derive(Clone, Copy)]
 pub struct Tally {
     pub data_bytes: usize,
     pub negotiations: usize,
@@ -20,7 +22,7 @@ pub struct Tally {
 }
 
 // A stream read up to `at`: where the reader stands, and the counts so far.
-#[derive(Drop)]
+#[derive(Clone, Copy)]
 struct Progress {
     phase: Phase,
     at: usize,
@@ -28,6 +30,7 @@ struct Progress {
 }
 
 // One event more.
+#[tactic(auto, unfolding(crate::specs::Counts::tallied, crate::specs::Counts::plus))]
 fn counted(tally: Tally, event: Event) -> Tally
     requires { total tally + 1 < 2 ^ 64 }
     ensures { result ≡ plus tally (tallied event) }
@@ -47,6 +50,7 @@ fn counted(tally: Tally, event: Event) -> Tally
 }
 
 // One byte, by the reader.
+#[tactic(auto, using(crate::proofs::Laws::byte_further))]
 fn one(progress: Progress, input: &[u8]) -> Progress
     requires { Counting input.now progress × (progress.at < length input.now) }
     ensures { Further input.now progress result }
@@ -65,6 +69,7 @@ fn one(progress: Progress, input: &[u8]) -> Progress
 }
 
 // At rest: the data up to the next IAC, and that IAC.
+#[tactic(auto, using(crate::proofs::Laws::stretch_lies_here, crate::proofs::Laws::data_further))]
 fn data_stretch(progress: Progress, input: &[u8]) -> Progress
     requires phase_value { progress.phase ≡ Rest }
     requires counting { Counting input.now progress × (progress.at < length input.now) }
@@ -83,6 +88,7 @@ fn data_stretch(progress: Progress, input: &[u8]) -> Progress
 }
 
 // In the subnegotiation of this option: its payload up to the next IAC, and that IAC.
+#[tactic(auto, using(crate::proofs::Laws::stretch_lies_here, crate::proofs::Laws::payload_further))]
 fn payload_stretch(option: u8, progress: Progress, input: &[u8]) -> Progress
     requires phase_value { progress.phase ≡ Inside option }
     requires counting { Counting input.now progress × (progress.at < length input.now) }
@@ -101,6 +107,7 @@ fn payload_stretch(option: u8, progress: Progress, input: &[u8]) -> Progress
 }
 
 // A whole subnegotiation, where one is ahead.
+#[tactic(auto, using(telnet::proofs::AheadLaws::ahead_stands, crate::proofs::Laws::sub_further))]
 fn sub_ahead(progress: Progress, input: &[u8]) -> Progress
     requires { Counting input.now progress }
     ensures { Counting input.now result × (progress.at ≤ result.at) }
@@ -151,6 +158,7 @@ fn turn(progress: Progress, input: &[u8]) -> Progress
 }
 
 // The counts of a whole stream.
+#[tactic(auto, using(crate::proofs::Laws::none_plus, crate::proofs::Laws::counting_done))]
 pub fn tally_of(input: &[u8]) -> Tally
     ensures { result ≡ tally_of (events_of Rest input.now) }
 {

@@ -7,7 +7,7 @@ use crate::code::{IAC, SB, SE};
 use crate::stretch::data_end;
 
 // What is ahead of a reader.
-#[derive(Drop)]
+#[derive(Clone, Copy)]
 pub enum Ahead {
     // a whole subnegotiation: its bytes stand from `start` up to `end`, and reading goes on at rest, at `next`
     WholeSub {
@@ -21,6 +21,7 @@ pub enum Ahead {
 }
 
 // After an IAC.
+#[tactic(auto, using(crate::proofs::StretchLaws::end_within, crate::proofs::AheadLaws::other_first, crate::proofs::AheadLaws::other_option, crate::proofs::AheadLaws::other_short, crate::proofs::AheadLaws::other_few, crate::proofs::AheadLaws::other_last, crate::proofs::AheadLaws::whole_sub))]
 fn sub_from(input: &[u8], from: usize) -> Ahead
     ensures { result ≡ sub_from input.now from }
 {
@@ -53,6 +54,7 @@ fn sub_from(input: &[u8], from: usize) -> Ahead
 }
 
 // In any phase.
+#[tactic(auto, unfolding(crate::specs::Stream::ahead_of))]
 pub fn look_ahead(phase: Phase, input: &[u8], from: usize) -> Ahead
     ensures { result ≡ ahead_of phase input.now from }
 {

@@ -1,6 +1,8 @@
 // Reads Telnet bytes (RFC 854, RFC 855), one at a time, and tells what they are: at most one event for each byte.
 // It knows nothing of screens or of any option's meaning, and holds no payload: whoever wants a
 // subnegotiation's bytes keeps them as they are told.
+#![tactic(auto)]
+
 ghost use Rattle.std.specs.Prelude.{◌≡◌};
 ghost use Rattle.telnet.specs.Reader.{after_iac, thrown_away, opening, opening_iac, inside, inside_iac, read_of};
 
@@ -11,7 +13,7 @@ pub mod stretch;
 use code::{DO, DONT, IAC, SB, SE, WILL, WONT};
 
 // The four commands that take an option byte.
-#[derive(Drop)]
+#[derive(Clone, Copy)]
 pub enum Verb {
     Will,
     Wont,
@@ -20,7 +22,7 @@ pub enum Verb {
 }
 
 // Where in the stream the reader stands. Every value is a place it can stand at.
-#[derive(Drop)]
+#[derive(Clone, Copy)]
 pub enum Phase {
     // outside any command
     Rest,
@@ -39,7 +41,7 @@ pub enum Phase {
 }
 
 // What a byte tells.
-#[derive(Drop)]
+#[derive(Clone, Copy)]
 pub enum Event {
     // nothing yet, or a command that does nothing
     Nothing,
@@ -58,13 +60,14 @@ pub enum Event {
 }
 
 // Where the reader stands after a byte, and what the byte told.
-#[derive(Drop)]
+#[derive(Clone, Copy)]
 pub struct Step {
     pub phase: Phase,
     pub event: Event,
 }
 
 // A byte after IAC, outside a subnegotiation.
+#[tactic(auto, unfolding(crate::specs::Reader::after_iac))]
 fn command(byte: u8) -> Step
     ensures { result ≡ after_iac byte }
 {
@@ -101,6 +104,7 @@ fn command(byte: u8) -> Step
 }
 
 // A byte after IAC in a subnegotiation that is neither IAC nor SE: obeyed as if outside.
+#[tactic(auto, unfolding(crate::specs::Reader::thrown_away))]
 fn throw_away(byte: u8) -> Step
     ensures { result ≡ thrown_away byte }
 {
@@ -113,6 +117,7 @@ fn throw_away(byte: u8) -> Step
 }
 
 // A byte after IAC SB.
+#[tactic(auto, unfolding(crate::specs::Reader::opening))]
 fn open_sub(byte: u8) -> Step
     ensures { result ≡ opening byte }
 {
@@ -130,6 +135,7 @@ fn open_sub(byte: u8) -> Step
 }
 
 // A byte after IAC SB IAC.
+#[tactic(auto, unfolding(crate::specs::Reader::opening_iac))]
 fn open_sub_iac(byte: u8) -> Step
     ensures { result ≡ opening_iac byte }
 {
@@ -147,6 +153,7 @@ fn open_sub_iac(byte: u8) -> Step
 }
 
 // A byte in the subnegotiation of this option.
+#[tactic(auto, unfolding(crate::specs::Reader::inside))]
 fn in_sub(option: u8, byte: u8) -> Step
     ensures { result ≡ inside option byte }
 {
@@ -167,6 +174,7 @@ fn in_sub(option: u8, byte: u8) -> Step
 }
 
 // A byte after IAC in the subnegotiation of this option.
+#[tactic(auto, unfolding(crate::specs::Reader::inside_iac))]
 fn in_sub_iac(option: u8, byte: u8) -> Step
     ensures { result ≡ inside_iac option byte }
 {
@@ -187,6 +195,7 @@ fn in_sub_iac(option: u8, byte: u8) -> Step
 }
 
 // A byte outside any command.
+#[tactic(auto, unfolding(crate::specs::Reader::read_of))]
 fn at_rest(byte: u8) -> Step
     ensures { result ≡ read_of Phase.Rest byte }
 {
@@ -204,6 +213,7 @@ fn at_rest(byte: u8) -> Step
 }
 
 // One byte.
+#[tactic(auto, unfolding(crate::specs::Reader::read_of))]
 pub fn read(phase: Phase, byte: u8) -> Step
     ensures { result ≡ read_of phase byte }
 {

@@ -9,7 +9,7 @@ use crate::Phase;
 use crate::code::IAC;
 
 // The bytes of a stretch end before `end`, at an IAC or with the input. Reading goes on at `next`, after that IAC, in `phase`.
-#[derive(Drop)]
+#[derive(Clone, Copy)]
 pub struct Stretch {
     pub end: usize,
     pub next: usize,
@@ -23,6 +23,7 @@ fn both(a: bool, b: bool) -> bool
 }
 
 // No IAC among the next 64 bytes? The loop has one way out, so that the compiler tests many at once.
+#[tactic(auto, using(crate::proofs::StretchLaws::end_more))]
 fn all_data(input: &[u8], from: usize) -> bool
     requires { from + 64 ≤ length input.now }
     ensures { result ≡ true → data_end input.now from ≡ data_end input.now (from + 64) }
@@ -56,6 +57,7 @@ fn skip_data(input: &[u8], from: usize) -> usize
 
 // How many of the next eight bytes stand before an IAC. The length is constant, so that the compiler tests one after the other without
 // a count.
+#[tactic(auto, using(crate::proofs::StretchLaws::end_hit, crate::proofs::StretchLaws::end_next))]
 fn in_eight(input: &[u8], from: usize) -> usize
     requires { from + 8 ≤ length input.now }
     ensures upper_bound { (result ≤ 8) × (data_end input.now from ≡ data_end input.now (from + result)) }
@@ -72,6 +74,7 @@ fn in_eight(input: &[u8], from: usize) -> usize
 }
 
 // A place from which the first IAC is the same: it stands there, or fewer than eight bytes do.
+#[tactic(auto, using(crate::proofs::StretchLaws::end_eight))]
 fn by_eights(input: &[u8], from: usize) -> usize
     ensures { data_end input.now from ≡ data_end input.now result }
 {
@@ -90,6 +93,7 @@ fn by_eights(input: &[u8], from: usize) -> usize
 }
 
 // The first IAC from `from` on; none, the input's end; where `from` is past the end, `from`.
+#[tactic(auto, using(crate::proofs::StretchLaws::end_hit, crate::proofs::StretchLaws::end_skip, crate::proofs::StretchLaws::end_past))]
 fn one_by_one(input: &[u8], from: usize) -> usize
     ensures { result ≡ data_end input.now from }
 {
@@ -128,6 +132,7 @@ pub(crate) fn data_end(input: &[u8], from: usize) -> usize
 }
 
 // The stretch from `from` on, of a reader that its bytes leave in `phase`, and an IAC leads to `after`.
+#[tactic(auto, using(crate::proofs::StretchLaws::stretch_iac, crate::proofs::StretchLaws::stretch_last, crate::proofs::StretchLaws::stretch_past))]
 fn stretch_at(phase: Phase, after: Phase, input: &[u8], from: usize) -> Stretch
     requires { after ≡ (read_of phase iac).phase }
     ensures { result ≡ stretch_of phase input.now from }
@@ -155,6 +160,7 @@ fn stretch_at(phase: Phase, after: Phase, input: &[u8], from: usize) -> Stretch
 }
 
 // At rest: the data from `from` on.
+#[tactic(auto, unfolding(crate::specs::Reader::reader))]
 pub fn data_at(input: &[u8], from: usize) -> Stretch
     ensures { result ≡ stretch_of Rest input.now from }
 {
@@ -162,6 +168,7 @@ pub fn data_at(input: &[u8], from: usize) -> Stretch
 }
 
 // In the subnegotiation of this option: its bytes from `from` on.
+#[tactic(auto, unfolding(crate::specs::Reader::reader))]
 pub fn payload_at(option: u8, input: &[u8], from: usize) -> Stretch
     ensures { result ≡ stretch_of (Inside option) input.now from }
 {

@@ -29,6 +29,7 @@ pub fn set_cell(chars: &mut [u8], cell: usize, byte: u8)
 }
 
 // One character from the host: the cursor after it.
+#[tactic(auto, using(crate::proofs::WriteLaws::unwritten, crate::proofs::WriteLaws::written))]
 pub fn put_character(frame: Frame, byte: u8, chars: &mut [u8], attrs: &[u8]) -> Place
     ensures { Changes (host_character (seen frame attrs.entry) byte)
         chars.old attrs.now (placed frame result) chars.new }
@@ -43,6 +44,7 @@ pub fn put_character(frame: Frame, byte: u8, chars: &mut [u8], attrs: &[u8]) -> 
 }
 
 // One byte of host data: the cursor after it.
+#[tactic(auto, using(crate::proofs::WriteLaws::unprinted), unfolding(rules::specs::Telnet::host_data))]
 pub fn take_data(frame: Frame, byte: u8, chars: &mut [u8], attrs: &[u8]) -> Place
     ensures { Changes (host_data (seen frame attrs.entry) byte)
         chars.old attrs.now (placed frame result) chars.new }
@@ -67,6 +69,7 @@ fn gone_right(frame: Frame, count: usize) -> Place
 }
 
 // Characters that stand in a row: the cursor after them. As many as can go into their cells by one copy.
+#[tactic(auto, using(crate::proofs::PlainLaws::step_none, crate::proofs::PlainLaws::step_copied, crate::proofs::PlainLaws::step_last))]
 fn put_text(
     frame: Frame,
     bytes: &[u8],
@@ -98,6 +101,7 @@ fn put_text(
 }
 
 // What is no character, at a place of the data: the cursor after it. No byte but an LF asks whether it is passed over.
+#[tactic(auto, using(crate::proofs::JoinedLaws::not_passed))]
 fn obey_control(frame: Frame, joins: bool, cr: bool, bytes: &[u8], at: usize) -> Place
     requires { at < length bytes.now }
     ensures { (attrs : List ℕ)
@@ -116,6 +120,7 @@ fn obey_control(frame: Frame, joins: bool, cr: bool, bytes: &[u8], at: usize) ->
 
 // Data: the frame after it. It does what its bytes do one after the other. Where `joins`, an LF right after a CR is passed over, and `cr`
 // tells whether a CR came last before the first byte. One character alone is not worth a copy.
+#[tactic(auto, using(screen::proofs::TestLaws::failing, screen::proofs::TestLaws::passing, crate::proofs::TextLaws::texted_none, crate::proofs::TextLaws::texted_character, crate::proofs::TextLaws::texted_control, crate::proofs::TextLaws::texted_all, crate::proofs::PlainLaws::each_two, crate::proofs::PlainLaws::each_row))]
 pub fn host_text(
     frame: Frame,
     joins: bool,

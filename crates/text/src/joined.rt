@@ -3,6 +3,7 @@ ghost use Rattle.std.specs.Prelude.{◌≡◌, ◌&&◌, ◌≤◌, length, take
 ghost use Rattle.text.specs.Text.{ends_in_cr};
 
 // Did a CR come last before this place? Before the first byte, as it was.
+#[tactic(auto, using(crate::proofs::JoinedLaws::ends_none, crate::proofs::JoinedLaws::ends_last))]
 fn after_cr(cr: bool, bytes: &[u8], at: usize) -> bool
     requires { at ≤ length bytes.now }
     ensures { result ≡ ends_in_cr cr (take at bytes.now) }
@@ -14,6 +15,7 @@ fn after_cr(cr: bool, bytes: &[u8], at: usize) -> bool
 }
 
 // Is the last byte a CR? Where there is none, as before.
+#[tactic(auto, using(crate::proofs::JoinedLaws::ends_all))]
 pub fn ends_in_cr(cr: bool, bytes: &[u8]) -> bool
     ensures { result ≡ ends_in_cr cr bytes.now }
 {

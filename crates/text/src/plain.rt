@@ -34,6 +34,7 @@ fn minus(a: usize, b: usize) -> usize
 // ---- characters in a row
 
 // Does one stand there?
+#[tactic(auto, using(words::proofs::Laws::not_both))]
 pub(crate) fn character_at(bytes: &[u8], at: usize) -> bool
     ensures { result ≡ true → (at < length bytes.now) × (printable (get_or bytes.now at 0) ≡ true) }
 {
@@ -43,6 +44,7 @@ pub(crate) fn character_at(bytes: &[u8], at: usize) -> bool
     false
 }
 
+#[tactic(auto, using(words::proofs::Laws::and_left, words::proofs::Laws::and_right, crate::proofs::PlainLaws::each_none, crate::proofs::PlainLaws::each_next))]
 fn sixteen_characters(bytes: &[u8], from: usize) -> bool
     requires { from + 16 ≤ length bytes.now }
     ensures { result ≡ true → Each printable bytes.now from 16 }
@@ -57,6 +59,7 @@ fn sixteen_characters(bytes: &[u8], from: usize) -> bool
     all
 }
 
+#[tactic(auto, using(crate::proofs::PlainLaws::each_none, crate::proofs::PlainLaws::each_on))]
 fn by_sixteens(bytes: &[u8], from: usize) -> usize
     requires { from ≤ length bytes.now }
     ensures { (from + result ≤ length bytes.now) × Each printable bytes.now from result }
@@ -73,6 +76,7 @@ fn by_sixteens(bytes: &[u8], from: usize) -> usize
 }
 
 // How many stand there in a row.
+#[tactic(auto, using(screen::proofs::TestLaws::passing, crate::proofs::PlainLaws::each_next))]
 pub(crate) fn count_characters(bytes: &[u8], from: usize) -> usize
     requires { from ≤ length bytes.now }
     ensures { (from + result ≤ length bytes.now) × Each printable bytes.now from result }
@@ -96,6 +100,7 @@ fn is_unguarded(attr: u8) -> bool
     protection(attr) != 1
 }
 
+#[tactic(auto, using(words::proofs::Laws::and_left, words::proofs::Laws::and_right, crate::proofs::PlainLaws::each_none, crate::proofs::PlainLaws::each_next))]
 fn sixteen_unguarded(attrs: &[u8], cell: usize) -> bool
     requires { cell + 16 ≤ length attrs.now }
     ensures { result ≡ true → Each unguarded attrs.now cell 16 }
@@ -110,6 +115,7 @@ fn sixteen_unguarded(attrs: &[u8], cell: usize) -> bool
     all
 }
 
+#[tactic(auto, using(crate::proofs::PlainLaws::each_none, crate::proofs::PlainLaws::each_on))]
 fn unguarded_sixteens(attrs: &[u8], cell: usize, most: usize) -> usize
     requires { most ≤ length attrs.now - cell }
     ensures { (result ≤ most) × Each unguarded attrs.now cell result }
@@ -126,6 +132,7 @@ fn unguarded_sixteens(attrs: &[u8], cell: usize, most: usize) -> usize
 }
 
 // The last sixteen, some of them tested twice, stand for the rest.
+#[tactic(auto, using(crate::proofs::PlainLaws::each_on))]
 fn unguarded_ends(attrs: &[u8], cell: usize, most: usize) -> usize
     requires { most ≤ length attrs.now - cell }
     ensures { (result ≤ most) × Each unguarded attrs.now cell result }
@@ -143,6 +150,7 @@ fn unguarded_ends(attrs: &[u8], cell: usize, most: usize) -> usize
     n
 }
 
+#[tactic(auto, using(screen::proofs::TestLaws::passing, crate::proofs::PlainLaws::each_next))]
 fn count_unguarded(attrs: &[u8], cell: usize, most: usize) -> usize
     requires { most ≤ length attrs.now - cell }
     ensures { (result ≤ most) × Each unguarded attrs.now cell result }
@@ -171,6 +179,7 @@ fn room_on_line(frame: Frame, cells: usize) -> usize
 
 // How many characters, at most `most`, go into their cells by one copy: from the cursor on, before the last cell of its line, on a
 // screen of `cells` cells.
+#[tactic(auto, using(crate::proofs::PlainLaws::free_suppressed, crate::proofs::PlainLaws::free_each))]
 pub(crate) fn open_run(frame: Frame, attrs: &[u8], cells: usize, most: usize) -> usize
     ensures { OpenRun frame attrs.now cells most result }
 {
@@ -184,6 +193,7 @@ pub(crate) fn open_run(frame: Frame, attrs: &[u8], cells: usize, most: usize) ->
 
 // ---- where the cursor stays
 
+#[tactic(auto, using(words::proofs::Laws::not_both, crate::proofs::PlainLaws::last_cell))]
 fn at_last_cell(frame: Frame) -> bool
     ensures { result ≡ true → next_cell frame ≡ frame.cursor }
 {
@@ -195,6 +205,7 @@ fn at_last_cell(frame: Frame) -> bool
 
 // Of the characters from `at` up to the answer only the last counts. On a guarded cell all are lost; at the screen's last cell each takes
 // the place of the one before.
+#[tactic(auto, using(crate::proofs::PlainLaws::stays_guarded, crate::proofs::PlainLaws::stays_last))]
 pub(crate) fn last_counts(frame: Frame, attrs: &[u8], at: usize, end: usize) -> usize
     requires { at < end }
     ensures { LastCounts (seen frame attrs.entry) at end result }

@@ -1,9 +1,0 @@
--- `in_sub` answers as `inside` says: whether the byte is 255 or not.
-use borrow.Author.Tests.{ne_eqb}
-use Rattle.telnet.specs.Reader.{inside}
-use Rattle.telnet.proofs.in_sub.Statement.{statement}
-use Rattle.telnet.proofs.in_sub.Tie as tie
-
-pub in_sub_spec : {M : Type 1} → statement M
-unfolding inside
-in_sub_spec = tie.close (tie.spec (λ c. rw c.if1.true) (λ c. simp (ne_eqb _ _ c.if1.false)))

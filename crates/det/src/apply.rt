@@ -49,7 +49,7 @@ fn change_cells(edit: Edit, chars: &mut [u8], attrs: &[u8])
 }
 
 // 37: a host character so many times.
-#[tactic(auto, using(crate::proofs::ApplyLaws::Repeating, crate::proofs::ApplyLaws::repeating_start, crate::proofs::ApplyLaws::repeating_more, crate::proofs::ApplyLaws::repeating_end))]
+#[tactic(auto, using(crate::proofs::ApplyLaws::repeating_start, crate::proofs::ApplyLaws::repeating_more, crate::proofs::ApplyLaws::repeating_end))]
 fn repeat(frame: Frame, count: u8, byte: u8, chars: &mut [u8], attrs: &[u8]) -> Frame
     ensures { Changes (edited (seen frame attrs.entry) (Edit.Repeat count byte))
         chars.old attrs.now result chars.new }

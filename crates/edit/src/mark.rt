@@ -11,7 +11,7 @@ fn either(a: bool, b: bool) -> bool
 }
 
 // Is a cell of the range marked? The loop looks at each of them and has one way out, so that the compiler tests sixteen at once.
-#[tactic(auto, using(crate::proofs::Kit::refl, crate::proofs::Kit::sym, crate::proofs::Kit::arith, crate::proofs::Kit::needs, crate::proofs::MarkLaws::marked_next, crate::proofs::MarkLaws::marked_end))]
+#[tactic(auto, using(crate::proofs::MarkLaws::marked_next, crate::proofs::MarkLaws::marked_end))]
 pub fn some_marked(marks: &[u8], from: usize, end: usize) -> bool
     ensures { result ≡ some_marked marks.now from end }
 {

@@ -21,7 +21,6 @@ pub(crate) fn lies_in(from: usize, end: usize, len: usize) -> bool
 }
 
 // The byte that comes to place i when the part moves towards its start.
-#[tactic(auto, using(crate::proofs::Kit::sym, crate::proofs::Kit::arith, crate::proofs::Kit::needs))]
 fn from_behind(part: &[u8], i: usize, by: usize) -> u8
     requires { i < length part.now }
     ensures { result ≡ deleted_cell by part.now i }
@@ -34,7 +33,6 @@ fn from_behind(part: &[u8], i: usize, by: usize) -> u8
 }
 
 // The byte that comes to place i when the part moves towards its end.
-#[tactic(auto, using(crate::proofs::Kit::arith, crate::proofs::Kit::needs))]
 fn from_ahead(part: &[u8], i: usize, by: usize) -> u8
     requires { i < length part.now }
     ensures { result ≡ inserted_cell by part.now i }
@@ -43,7 +41,7 @@ fn from_ahead(part: &[u8], i: usize, by: usize) -> u8
 }
 
 // Every byte `by` places towards the part's start.
-#[tactic(auto, using(crate::proofs::Kit::refl, crate::proofs::Kit::arith, crate::proofs::Kit::length, crate::proofs::Kit::get_or, crate::proofs::Kit::needs, crate::proofs::ListLaws::Seam, crate::proofs::ListLaws::seam_up, crate::proofs::ListLaws::seam_all, crate::proofs::ListLaws::same_read), unfolding(crate::specs::Edits::deleted))]
+#[tactic(auto, using(crate::proofs::ListLaws::seam_up, crate::proofs::ListLaws::seam_all, crate::proofs::ListLaws::same_read), unfolding(crate::specs::Edits::deleted))]
 fn shift_down(part: &mut [u8], by: usize)
     ensures { part.new ≡ deleted by part.old }
 {
@@ -55,7 +53,7 @@ fn shift_down(part: &mut [u8], by: usize)
 }
 
 // Every byte `by` places towards the part's end.
-#[tactic(auto, using(crate::proofs::Kit::refl, crate::proofs::Kit::arith, crate::proofs::Kit::length, crate::proofs::Kit::get_or, crate::proofs::Kit::needs, crate::proofs::ListLaws::Seam, crate::proofs::ListLaws::seam_down, crate::proofs::ListLaws::seam_all, crate::proofs::ListLaws::same_read), unfolding(crate::specs::Edits::inserted))]
+#[tactic(auto, using(crate::proofs::ListLaws::seam_down, crate::proofs::ListLaws::seam_all, crate::proofs::ListLaws::same_read), unfolding(crate::specs::Edits::inserted))]
 fn shift_up(part: &mut [u8], by: usize)
     ensures { part.new ≡ inserted by part.old }
 {
@@ -66,7 +64,7 @@ fn shift_up(part: &mut [u8], by: usize)
     }
 }
 
-#[tactic(auto, using(crate::proofs::Kit::needs), unfolding(crate::specs::Edits::shifted))]
+#[tactic(auto, unfolding(crate::specs::Edits::shifted))]
 fn shift_part(part: &mut [u8], shift: Shift, by: usize)
     ensures { part.new ≡ shifted shift by part.old }
 {
@@ -78,7 +76,7 @@ fn shift_part(part: &mut [u8], shift: Shift, by: usize)
 
 // Inserts `by` spaces at the start of the range, or deletes `by` characters there.
 // (Document 01, code places: the mutable part that starts at the cursor is lent to the shifting routine.)
-#[tactic(auto, using(crate::proofs::Kit::sym, crate::proofs::Kit::needs, crate::proofs::EditLaws::lies_ordered, crate::proofs::EditLaws::lies_end, crate::proofs::EditLaws::put_part))]
+#[tactic(auto, using(crate::proofs::EditLaws::lies_ordered, crate::proofs::EditLaws::lies_end, crate::proofs::EditLaws::put_part))]
 pub fn shift_range(chars: &mut [u8], from: usize, end: usize, shift: Shift, by: usize)
     ensures { chars.new ≡ on_part from end (shifted shift by) chars.old }
 {
@@ -89,7 +87,7 @@ pub fn shift_range(chars: &mut [u8], from: usize, end: usize, shift: Shift, by: 
 }
 
 // The byte in every cell of the range: an attribute byte, a mark, a space.
-#[tactic(auto, using(crate::proofs::Kit::arith, crate::proofs::Kit::needs, crate::proofs::ListLaws::Storing, crate::proofs::ListLaws::storing_start, crate::proofs::ListLaws::storing_hit, crate::proofs::ListLaws::storing_end, crate::proofs::ListLaws::in_range_lem, crate::proofs::ListLaws::before_range, crate::proofs::ListLaws::after_range), unfolding(crate::specs::Edits::filled))]
+#[tactic(auto, using(crate::proofs::ListLaws::storing_start, crate::proofs::ListLaws::storing_hit, crate::proofs::ListLaws::storing_end, crate::proofs::ListLaws::in_range_lem, crate::proofs::ListLaws::before_range, crate::proofs::ListLaws::after_range), unfolding(crate::specs::Edits::filled))]
 pub fn fill(bytes: &mut [u8], from: usize, end: usize, byte: u8)
     ensures { bytes.new ≡ filled from end byte bytes.old }
 {
@@ -109,7 +107,7 @@ fn kept(protected: bool, byte: u8) -> u8
 }
 
 // Spaces in the cells of the range that are not protected. The loop stores into each cell, so that the compiler does sixteen at once.
-#[tactic(auto, using(crate::proofs::Kit::false, crate::proofs::Kit::not, crate::proofs::Kit::arith, crate::proofs::Kit::needs, crate::proofs::ListLaws::Storing, crate::proofs::ListLaws::storing_start, crate::proofs::ListLaws::storing_either, crate::proofs::ListLaws::storing_end, crate::proofs::ListLaws::before_range, crate::proofs::EditLaws::erasing, crate::proofs::EditLaws::not_erased), unfolding(crate::specs::Edits::erased))]
+#[tactic(auto, using(crate::proofs::ListLaws::storing_start, crate::proofs::ListLaws::storing_either, crate::proofs::ListLaws::storing_end, crate::proofs::ListLaws::before_range, crate::proofs::EditLaws::erasing, crate::proofs::EditLaws::not_erased), unfolding(crate::specs::Edits::erased))]
 fn erase_unprotected(chars: &mut [u8], attrs: &[u8], from: usize, end: usize)
     ensures { chars.new ≡ erased false chars.old attrs.now from end }
 {
@@ -122,7 +120,7 @@ fn erase_unprotected(chars: &mut [u8], attrs: &[u8], from: usize, end: usize)
 }
 
 // Spaces in the cells of the range that are not guarded.
-#[tactic(auto, using(crate::proofs::Kit::needs, crate::proofs::EditLaws::erased_all))]
+#[tactic(auto, using(crate::proofs::EditLaws::erased_all))]
 pub fn erase(suppressed: bool, chars: &mut [u8], attrs: &[u8], from: usize, end: usize)
     ensures { chars.new ≡ erased suppressed chars.old attrs.now from end }
 {

@@ -6,7 +6,6 @@ ghost use Rattle.edit.specs.Edits.{Copied};
 use crate::range::lies_in;
 
 // Copies the first `count` bytes of the text into the reply from `at` on.
-#[tactic(auto, using(crate::proofs::Kit::refl, crate::proofs::Kit::arith, crate::proofs::Kit::length, crate::proofs::Kit::paste, crate::proofs::Kit::needs))]
 fn copy(text: &[u8], reply: &mut [u8], at: usize, count: usize)
     requires { (count ≤ length text.now) × (at + count ≤ length reply.old) }
     ensures { reply.new ≡ paste reply.old at text.now count }
@@ -19,7 +18,7 @@ fn copy(text: &[u8], reply: &mut [u8], at: usize, count: usize)
 }
 
 // Does the range lie in a text of `len` bytes, and does it fit into `room` bytes from `at` on?
-#[tactic(auto, using(crate::proofs::Kit::sym, crate::proofs::Kit::arith, crate::proofs::Kit::needs, crate::proofs::EditLaws::lies_ordered, crate::proofs::EditLaws::room_after))]
+#[tactic(auto, using(crate::proofs::EditLaws::lies_ordered, crate::proofs::EditLaws::room_after))]
 fn can_copy(len: usize, room: usize, from: usize, end: usize, at: usize) -> bool
     ensures { result ≡ ((leb from end && leb end len) && leb (at + (end - from)) room) }
 {
@@ -33,7 +32,7 @@ fn can_copy(len: usize, room: usize, from: usize, end: usize, at: usize) -> bool
 
 // Copies the text of a range of cells into the reply from `at` on, and returns the place after it.
 // (Document 01, code places: the part of the character buffer from the cursor on is handed on to be sent.)
-#[tactic(auto, using(crate::proofs::Kit::sym, crate::proofs::Kit::arith, crate::proofs::Kit::length, crate::proofs::Kit::needs, crate::proofs::EditLaws::copy_bounds, crate::proofs::EditLaws::copied_not, crate::proofs::EditLaws::copied_all))]
+#[tactic(auto, using(crate::proofs::EditLaws::copy_bounds, crate::proofs::EditLaws::copied_not, crate::proofs::EditLaws::copied_all))]
 pub fn copy_text(chars: &[u8], reply: &mut [u8], from: usize, end: usize, at: usize) -> usize
     ensures { Copied chars.now reply.old from end at reply.new result }
 {

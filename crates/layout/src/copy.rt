@@ -3,7 +3,7 @@ ghost use Rattle.std.specs.Prelude.{◌≡◌, ◌+◌, ◌≤◌, length};
 ghost use Rattle.std.proofs.lemmas.List.Edits.{sets};
 
 // Copies the part into the whole, from `at` on.
-#[tactic(auto, using(crate::proofs::Kit::refl, crate::proofs::Kit::length, crate::proofs::Kit::arith, crate::proofs::Kit::needs, crate::proofs::Kit::paste, crate::proofs::CopyLaws::pasted_all))]
+#[tactic(auto, using(crate::proofs::CopyLaws::pasted_all))]
 pub(crate) fn copy(part: &[u8], whole: &mut [u8], at: usize)
     requires { at + length part.now ≤ length whole.old }
     ensures { whole.new ≡ sets whole.old at part.now }

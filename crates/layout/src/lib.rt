@@ -22,7 +22,7 @@ pub const SESSION_LENGTH: usize = 212;
 pub(crate) const VERSION: u8 = 4;
 
 // Are the bytes those of a session?
-#[tactic(auto, using(crate::proofs::Kit::sym, crate::proofs::Kit::needs, crate::proofs::Kit::ne_eqb), unfolding(crate::specs::Layout::is_session))]
+#[tactic(auto, unfolding(crate::specs::Layout::is_session))]
 pub fn is_session(bytes: &[u8]) -> bool
     ensures { result ≡ is_session bytes.now }
 {
@@ -50,7 +50,7 @@ pub fn decode(bytes: &[u8]) -> Session
 }
 
 // Writes the session's bytes over those that are there. A place of another length is left as it is.
-#[tactic(auto, using(crate::proofs::Kit::sym, crate::proofs::Kit::needs, crate::proofs::LayoutLaws::stored_elsewhere, crate::proofs::CopyLaws::session_stored))]
+#[tactic(auto, using(crate::proofs::LayoutLaws::stored_elsewhere, crate::proofs::CopyLaws::session_stored))]
 pub fn encode(session: Session, bytes: &mut [u8])
     ensures { bytes.new ≡ stored session bytes.old }
 {

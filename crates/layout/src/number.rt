@@ -22,7 +22,7 @@ pub struct StageBytes {
 }
 
 // Where the reader stands after IAC and this verb.
-#[tactic(auto, using(crate::proofs::Kit::needs), unfolding(crate::specs::Layout::verb_number))]
+#[tactic(auto, unfolding(crate::specs::Layout::verb_number))]
 fn verb_number(verb: Verb) -> u8
     ensures { result ≡ verb_number verb }
 {
@@ -34,7 +34,7 @@ fn verb_number(verb: Verb) -> u8
     }
 }
 
-#[tactic(auto, using(crate::proofs::Kit::needs), unfolding(crate::specs::Layout::phase_bytes))]
+#[tactic(auto, unfolding(crate::specs::Layout::phase_bytes))]
 pub(crate) fn phase_bytes(phase: Phase) -> PhaseBytes
     ensures { result ≡ phase_bytes phase }
 {
@@ -65,7 +65,7 @@ pub(crate) fn phase_bytes(phase: Phase) -> PhaseBytes
 }
 
 // Any number above 8 is taken for 9.
-#[tactic(auto, using(crate::proofs::Kit::ne_eqb), unfolding(crate::specs::Layout::phase_of))]
+#[tactic(auto, unfolding(crate::specs::Layout::phase_of))]
 pub(crate) fn phase_of(number: u8, option: u8) -> Phase
     ensures { result ≡ phase_of number option }
 {
@@ -83,7 +83,7 @@ pub(crate) fn phase_of(number: u8, option: u8) -> Phase
     }
 }
 
-#[tactic(auto, using(crate::proofs::Kit::needs), unfolding(crate::specs::Layout::stage_bytes))]
+#[tactic(auto, unfolding(crate::specs::Layout::stage_bytes))]
 pub(crate) fn stage_bytes(stage: Stage) -> StageBytes
     ensures { result ≡ stage_bytes stage }
 {
@@ -107,7 +107,7 @@ pub(crate) fn stage_bytes(stage: Stage) -> StageBytes
 }
 
 // Any number above 1 is taken for 2.
-#[tactic(auto, using(crate::proofs::Kit::ne_eqb), unfolding(crate::specs::Layout::stage_of))]
+#[tactic(auto, unfolding(crate::specs::Layout::stage_of))]
 pub(crate) fn stage_of(number: u8, code: u8, parameter: u8) -> Stage
     ensures { result ≡ stage_of number code parameter }
 {
@@ -118,7 +118,7 @@ pub(crate) fn stage_of(number: u8, code: u8, parameter: u8) -> Stage
     }
 }
 
-#[tactic(auto, using(crate::proofs::Kit::needs), unfolding(crate::specs::Layout::edition_number))]
+#[tactic(auto, unfolding(crate::specs::Layout::edition_number))]
 pub(crate) fn edition_number(edition: Edition) -> u8
     ensures { result ≡ edition_number edition }
 {
@@ -129,7 +129,7 @@ pub(crate) fn edition_number(edition: Edition) -> u8
 }
 
 // Any number above 0 is taken for 1.
-#[tactic(auto, using(crate::proofs::Kit::ne_eqb), unfolding(crate::specs::Layout::edition_numbered))]
+#[tactic(auto, unfolding(crate::specs::Layout::edition_numbered))]
 pub(crate) fn edition_numbered(number: u8) -> Edition
     ensures { result ≡ edition_numbered number }
 {

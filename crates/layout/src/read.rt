@@ -12,7 +12,7 @@ use rules::{Frame, Held, Maps, Pad, Reader, Session};
 use screen::cell::{Column, Line, Place};
 
 // The six held bytes.
-#[tactic(auto, using(crate::proofs::Kit::needs, crate::proofs::CopyLaws::part_read))]
+#[tactic(auto, using(crate::proofs::CopyLaws::part_read))]
 fn held_in(bytes: &[u8]) -> [u8; 6]
     requires { session_length ≤ length bytes.now }
     ensures { result ≡ bytes_from bytes.now 11 6 }
@@ -23,7 +23,7 @@ fn held_in(bytes: &[u8]) -> [u8; 6]
 }
 
 // The 28 values from a place on.
-#[tactic(auto, using(crate::proofs::Kit::arith, crate::proofs::Kit::needs, crate::proofs::CopyLaws::part_read))]
+#[tactic(auto, using(crate::proofs::CopyLaws::part_read))]
 fn values_in(bytes: &[u8], from: usize) -> [u8; 28]
     requires { from + 28 ≤ length bytes.now }
     ensures { result ≡ bytes_from bytes.now from 28 }
@@ -34,7 +34,7 @@ fn values_in(bytes: &[u8], from: usize) -> [u8; 28]
 }
 
 // The edit line's bytes.
-#[tactic(auto, using(crate::proofs::Kit::needs, crate::proofs::CopyLaws::part_read))]
+#[tactic(auto, using(crate::proofs::CopyLaws::part_read))]
 fn line_in(bytes: &[u8]) -> [u8; EditLine::CAPACITY]
     requires { session_length ≤ length bytes.now }
     ensures { result ≡ bytes_from bytes.now 47 128 }
@@ -45,7 +45,7 @@ fn line_in(bytes: &[u8]) -> [u8; EditLine::CAPACITY]
 }
 
 // The facility maps received.
-#[tactic(auto, using(crate::proofs::Kit::refl, crate::proofs::Kit::needs), unfolding(crate::specs::Layout::maps_in))]
+#[tactic(auto, unfolding(crate::specs::Layout::maps_in))]
 fn maps_in(bytes: &[u8]) -> Maps
     requires { session_length ≤ length bytes.now }
     ensures { result ≡ maps_in bytes.now }
@@ -59,7 +59,7 @@ fn maps_in(bytes: &[u8]) -> Maps
     }
 }
 
-#[tactic(auto, using(crate::proofs::Kit::needs), unfolding(crate::specs::Layout::frame_in))]
+#[tactic(auto, unfolding(crate::specs::Layout::frame_in))]
 fn frame_in(bytes: &[u8]) -> Frame
     requires { session_length ≤ length bytes.now }
     ensures { result ≡ frame_in bytes.now }
@@ -79,7 +79,7 @@ fn frame_in(bytes: &[u8]) -> Frame
     }
 }
 
-#[tactic(auto, using(crate::proofs::Kit::needs), unfolding(crate::specs::Layout::reader_in))]
+#[tactic(auto, unfolding(crate::specs::Layout::reader_in))]
 fn reader_in(bytes: &[u8]) -> Reader
     requires { session_length ≤ length bytes.now }
     ensures { result ≡ reader_in bytes.now }
@@ -94,7 +94,7 @@ fn reader_in(bytes: &[u8]) -> Reader
     }
 }
 
-#[tactic(auto, using(crate::proofs::Kit::needs), unfolding(crate::specs::Layout::pad_in))]
+#[tactic(auto, unfolding(crate::specs::Layout::pad_in))]
 fn pad_in(bytes: &[u8]) -> Pad
     requires { session_length ≤ length bytes.now }
     ensures { result ≡ pad_in bytes.now }
@@ -117,7 +117,7 @@ fn pad_in(bytes: &[u8]) -> Pad
 }
 
 // The session of bytes that are long enough for one.
-#[tactic(auto, using(crate::proofs::Kit::needs), unfolding(crate::specs::Layout::decoded))]
+#[tactic(auto, unfolding(crate::specs::Layout::decoded))]
 pub(crate) fn session_in(bytes: &[u8]) -> Session
     requires { session_length ≤ length bytes.now }
     ensures { result ≡ decoded bytes.now }
@@ -130,7 +130,7 @@ pub(crate) fn session_in(bytes: &[u8]) -> Session
 }
 
 // The session of bytes that may be too short for one: zeros stand for what is missing.
-#[tactic(auto, using(crate::proofs::Kit::needs, crate::proofs::CopyLaws::all_read, crate::proofs::CopyLaws::padded_same))]
+#[tactic(auto, using(crate::proofs::CopyLaws::all_read, crate::proofs::CopyLaws::padded_same))]
 pub(crate) fn session_in_short(bytes: &[u8]) -> Session
     requires { length bytes.now ≤ session_length }
     ensures { result ≡ decoded bytes.now }

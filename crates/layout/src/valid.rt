@@ -3,7 +3,6 @@ ghost use Rattle.std.specs.Prelude.{◌≡◌, ◌≤◌, length};
 ghost use Rattle.layout.specs.Layout.{session_length, has_flags, is_phase, is_stage, has_places};
 
 // Is each flag 0 or 1, and so the edition?
-#[tactic(auto, using(crate::proofs::Kit::needs))]
 pub(crate) fn has_flags(bytes: &[u8]) -> bool
     requires { session_length ≤ length bytes.now }
     ensures { result ≡ has_flags bytes.now }
@@ -34,7 +33,6 @@ fn is_phase(number: u8, option: u8) -> bool
 }
 
 // Is it one of the three stages, with a code and a parameter only where they are read?
-#[tactic(auto, using(crate::proofs::Kit::ne_eqb))]
 fn is_stage(number: u8, code: u8, parameter: u8) -> bool
     ensures { result ≡ is_stage number code parameter }
 {
@@ -48,7 +46,6 @@ fn is_stage(number: u8, code: u8, parameter: u8) -> bool
 }
 
 // Are the reader's place and the message's stage among those that there are?
-#[tactic(auto, using(crate::proofs::Kit::sym, crate::proofs::Kit::needs))]
 pub(crate) fn has_places(bytes: &[u8]) -> bool
     requires { session_length ≤ length bytes.now }
     ensures { result ≡ has_places bytes.now }

@@ -11,7 +11,6 @@ use pad::message::Message;
 use rules::{Frame, Pad, Reader};
 
 // The version and the frame, but for its maps and its edition.
-#[tactic(auto, using(crate::proofs::Kit::refl, crate::proofs::Kit::arith, crate::proofs::Kit::needs))]
 pub(crate) fn put_frame(frame: Frame, bytes: &mut [u8])
     requires { length bytes.old ≡ session_length }
     ensures { Emitted bytes.old 0 (frame_bytes frame) bytes.new 8 }
@@ -26,7 +25,6 @@ pub(crate) fn put_frame(frame: Frame, bytes: &mut [u8])
     bytes[7] = frame.suppressed as u8;
 }
 
-#[tactic(auto, using(crate::proofs::Kit::refl, crate::proofs::Kit::length, crate::proofs::Kit::arith, crate::proofs::Kit::needs, crate::proofs::Kit::Emitted, crate::proofs::Kit::emitted_then))]
 pub(crate) fn put_reader(reader: Reader, bytes: &mut [u8])
     requires { length bytes.old ≡ session_length }
     ensures { Emitted bytes.old 8 (reader_bytes reader) bytes.new 18 }
@@ -42,7 +40,6 @@ pub(crate) fn put_reader(reader: Reader, bytes: &mut [u8])
 }
 
 // The edit line: its length, then its bytes.
-#[tactic(auto, using(crate::proofs::Kit::sym, crate::proofs::Kit::ap, crate::proofs::Kit::suc, crate::proofs::Kit::length, crate::proofs::Kit::arith, crate::proofs::Kit::needs))]
 fn put_line(line: EditLine, bytes: &mut [u8])
     requires { length bytes.old ≡ session_length }
     ensures { Emitted bytes.old 46 (line_bytes line) bytes.new 175 }
@@ -53,7 +50,6 @@ fn put_line(line: EditLine, bytes: &mut [u8])
 }
 
 // A message as far as it is read, and its copy of the values.
-#[tactic(auto, using(crate::proofs::Kit::length, crate::proofs::Kit::arith, crate::proofs::Kit::needs))]
 fn put_message(message: Message, bytes: &mut [u8])
     requires { length bytes.old ≡ session_length }
     ensures { Emitted bytes.old 175 (message_bytes message) bytes.new 206 }
@@ -67,7 +63,6 @@ fn put_message(message: Message, bytes: &mut [u8])
     copy(&values, bytes, 178);
 }
 
-#[tactic(auto, using(crate::proofs::Kit::length, crate::proofs::Kit::arith, crate::proofs::Kit::needs, crate::proofs::Kit::Emitted, crate::proofs::Kit::emitted_then))]
 pub(crate) fn put_pad(pad: Pad, bytes: &mut [u8])
     requires { length bytes.old ≡ session_length }
     ensures { Emitted bytes.old 18 (pad_bytes pad) bytes.new 206 }
@@ -79,7 +74,6 @@ pub(crate) fn put_pad(pad: Pad, bytes: &mut [u8])
 }
 
 // The rest of the frame: the facility maps received, and the edition.
-#[tactic(auto, using(crate::proofs::Kit::refl, crate::proofs::Kit::arith, crate::proofs::Kit::needs))]
 pub(crate) fn put_rest(frame: Frame, bytes: &mut [u8])
     requires { length bytes.old ≡ session_length }
     ensures { Emitted bytes.old 206 (rest_bytes frame) bytes.new 212 }

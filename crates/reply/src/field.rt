@@ -58,7 +58,7 @@ pub(crate) fn field_from(attrs: &[u8], cell: usize) -> usize
 }
 
 // Every unprotected field, a separator between each two.
-#[tactic(auto, using(crate::proofs::WriteLaws::WritingTo, crate::proofs::WriteLaws::writing_length, crate::proofs::WriteLaws::fields_start, crate::proofs::WriteLaws::fields_all, crate::proofs::WriteLaws::to_next, crate::proofs::WriteLaws::to_further, crate::proofs::WriteLaws::to_more, crate::proofs::SingleLaws::to_after))]
+#[tactic(auto, using(crate::proofs::WriteLaws::writing_length, crate::proofs::WriteLaws::fields_start, crate::proofs::WriteLaws::fields_all, crate::proofs::WriteLaws::to_next, crate::proofs::WriteLaws::to_further, crate::proofs::WriteLaws::to_more, crate::proofs::SingleLaws::to_after))]
 pub(crate) fn put_fields(chars: &[u8], attrs: &[u8], reply: &mut [u8], at: usize, code: u8) -> usize
     requires { eqb code 255 ≡ false }
     ensures { Wrote reply.old at

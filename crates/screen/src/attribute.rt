@@ -10,14 +10,13 @@ pub fn protection(attr: u8) -> u8
 }
 
 // A cell that has no attribute byte counts as protected.
-#[tactic(auto, using(crate::proofs::Kit::sym, crate::proofs::Kit::arith, crate::proofs::Kit::needs))]
 pub fn attribute_at(attrs: &[u8], cell: usize) -> u8
     ensures { result ≡ attribute_at attrs.now cell }
 {
     if cell < attrs.len() { attrs[cell] } else { 8 }
 }
 
-#[tactic(auto, using(crate::proofs::Kit::needs), unfolding(crate::specs::Attributes::protected_at))]
+#[tactic(auto, unfolding(crate::specs::Attributes::protected_at))]
 pub fn is_protected(attrs: &[u8], cell: usize) -> bool
     ensures { result ≡ protected_at attrs.now cell }
 {
@@ -25,7 +24,6 @@ pub fn is_protected(attrs: &[u8], cell: usize) -> bool
     protection(attr) == 1
 }
 
-#[tactic(auto, using(crate::proofs::Kit::needs))]
 pub fn is_guarded(suppressed: bool, attrs: &[u8], cell: usize) -> bool
     ensures { result ≡ guarded_at suppressed attrs.now cell }
 {

@@ -18,7 +18,7 @@ fn either(a: bool, b: bool) -> bool
     if a { true } else { b }
 }
 
-#[tactic(auto, using(crate::proofs::Kit::needs), unfolding(crate::specs::Inner::Skips::passes_protected))]
+#[tactic(auto, unfolding(crate::specs::Inner::Skips::passes_protected))]
 fn passes_protected(target: Target) -> bool
     ensures { result ≡ passes_protected target }
 {
@@ -29,7 +29,7 @@ fn passes_protected(target: Target) -> bool
     }
 }
 
-#[tactic(auto, using(crate::proofs::Kit::needs), unfolding(crate::specs::Inner::Skips::passes_alike))]
+#[tactic(auto, unfolding(crate::specs::Inner::Skips::passes_alike))]
 fn passes_alike(target: Target) -> bool
     ensures { result ≡ passes_alike target }
 {
@@ -40,7 +40,6 @@ fn passes_alike(target: Target) -> bool
     }
 }
 
-#[tactic(auto, using(crate::proofs::Kit::needs))]
 fn is_passed(protected: bool, alike: bool, before: u8, here: u8) -> bool
     ensures { result ≡ passed protected alike before here }
 {
@@ -50,7 +49,7 @@ fn is_passed(protected: bool, alike: bool, before: u8, here: u8) -> bool
 }
 
 // Is none of the block's cells what is looked for?
-#[tactic(auto, using(crate::proofs::Kit::sym, crate::proofs::Kit::true, crate::proofs::Kit::arith, crate::proofs::Kit::needs, words::proofs::Laws::and_left, words::proofs::Laws::and_right, crate::proofs::SkipLaws::AllPassed, crate::proofs::SkipLaws::passed_none, crate::proofs::SkipLaws::passed_next, crate::proofs::SkipLaws::passed_none_in))]
+#[tactic(auto, using(words::proofs::Laws::and_left, words::proofs::Laws::and_right, crate::proofs::SkipLaws::passed_none, crate::proofs::SkipLaws::passed_next, crate::proofs::SkipLaws::passed_none_in))]
 fn none_in_block(attrs: &[u8], target: Target, cell: usize) -> bool
     requires { (0 < cell) × (cell + 32 ≤ length attrs.now) }
     ensures { result ≡ true → NoneIn attrs.now target cell (cell + 32) }
@@ -68,7 +67,7 @@ fn none_in_block(attrs: &[u8], target: Target, cell: usize) -> bool
 }
 
 // A cell before `end` or there, up to which none is what is looked for.
-#[tactic(auto, using(crate::proofs::Kit::arith, crate::proofs::Kit::length, crate::proofs::Kit::needs, crate::proofs::SkipLaws::none_there, crate::proofs::SkipLaws::none_then))]
+#[tactic(auto, using(crate::proofs::SkipLaws::none_there, crate::proofs::SkipLaws::none_then))]
 pub(crate) fn past(attrs: &[u8], target: Target, from: usize, end: usize) -> usize
     requires { (0 < from) × (from ≤ end) × (end ≤ length attrs.now) }
     ensures { (from ≤ result) × (result ≤ end) × NoneIn attrs.now target from result }
@@ -85,7 +84,7 @@ pub(crate) fn past(attrs: &[u8], target: Target, from: usize, end: usize) -> usi
 }
 
 // A cell from which none up to `end` is what is looked for.
-#[tactic(auto, using(crate::proofs::Kit::arith, crate::proofs::Kit::length, crate::proofs::Kit::needs, crate::proofs::SkipLaws::none_there, crate::proofs::SkipLaws::none_then))]
+#[tactic(auto, using(crate::proofs::SkipLaws::none_there, crate::proofs::SkipLaws::none_then))]
 pub(crate) fn behind(attrs: &[u8], target: Target, end: usize) -> usize
     requires { end ≤ length attrs.now }
     ensures { (result ≤ end) × NoneIn attrs.now target result end }

@@ -25,7 +25,7 @@ pub fn on_screen(width: u8, height: u8, place: Place) -> bool
 }
 
 // The first cell of a line.
-#[tactic(auto, using(crate::proofs::Kit::arith, crate::proofs::Kit::needs, crate::proofs::CellLaws::byte_product))]
+#[tactic(auto, using(crate::proofs::CellLaws::byte_product))]
 pub fn line_start(width: u8, y: Line) -> usize
     ensures { result ≡ line_start width y }
 {
@@ -33,14 +33,14 @@ pub fn line_start(width: u8, y: Line) -> usize
 }
 
 // The cell after a line's last.
-#[tactic(auto, using(crate::proofs::Kit::arith, crate::proofs::Kit::needs, crate::proofs::CellLaws::byte_product))]
+#[tactic(auto, using(crate::proofs::CellLaws::byte_product))]
 pub fn line_end(width: u8, y: Line) -> usize
     ensures { result ≡ line_end width y }
 {
     line_start(width, y) + wide(width)
 }
 
-#[tactic(auto, using(crate::proofs::Kit::arith, crate::proofs::Kit::needs, crate::proofs::CellLaws::byte_product))]
+#[tactic(auto, using(crate::proofs::CellLaws::byte_product))]
 pub fn cell_of(width: u8, place: Place) -> usize
     ensures { result ≡ cell_of width place }
 {
@@ -48,7 +48,7 @@ pub fn cell_of(width: u8, place: Place) -> usize
     line_start(width, y) + wide(place.x.0)
 }
 
-#[tactic(auto, using(crate::proofs::Kit::arith, crate::proofs::Kit::needs, crate::proofs::CellLaws::place_on_screen), unfolding(crate::specs::Cells::place_or_origin))]
+#[tactic(auto, using(crate::proofs::CellLaws::place_on_screen), unfolding(crate::specs::Cells::place_or_origin))]
 pub fn place_of(width: u8, cell: usize) -> Place
     ensures { result ≡ place_or_origin width cell }
 {

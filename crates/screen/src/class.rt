@@ -265,7 +265,7 @@ const CLASSES: [u8; 256] = [
     0, // 255
 ];
 
-#[tactic(auto, using(crate::proofs::Kit::needs, words::proofs::Laws::get_d_tabulate), unfolding(words::specs::Words::tabulate, crate::specs::Classes::class_of))]
+#[tactic(auto, using(words::proofs::Laws::get_d_tabulate), unfolding(words::specs::Words::tabulate, crate::specs::Classes::class_of))]
 pub fn class(byte: u8) -> u8
     ensures { result ≡ class_of byte }
 {
@@ -273,7 +273,7 @@ pub fn class(byte: u8) -> u8
 }
 
 // Does a cell with this attribute byte take the byte when it is typed?
-#[tactic(auto, using(crate::proofs::Kit::refl, crate::proofs::Kit::Bool, crate::proofs::Kit::true, crate::proofs::Kit::false, crate::proofs::Kit::eqb, crate::proofs::Kit::needs, crate::proofs::Kit::ne_eqb), unfolding(crate::specs::Classes::class_of, crate::specs::Classes::takes))]
+#[tactic(auto, unfolding(crate::specs::Classes::class_of, crate::specs::Classes::takes))]
 pub fn takes_typed(attr: u8, byte: u8) -> bool
     ensures { result ≡ takes attr byte }
 {

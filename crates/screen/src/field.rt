@@ -9,7 +9,7 @@ use crate::number::least;
 use crate::scan::{Target, first, last};
 
 // The first cell of the cell's field.
-#[tactic(auto, using(crate::proofs::Kit::min, crate::proofs::Kit::arith, crate::proofs::Kit::length, crate::proofs::Kit::needs), unfolding(crate::specs::Fields::field_start, crate::specs::Scans::is_target))]
+#[tactic(auto, unfolding(crate::specs::Fields::field_start, crate::specs::Scans::is_target))]
 pub fn field_start(attrs: &[u8], cell: usize) -> usize
     ensures { result ≡ field_start attrs.now cell }
 {
@@ -21,7 +21,7 @@ pub fn field_start(attrs: &[u8], cell: usize) -> usize
 }
 
 // The cell after the last one of the cell's field.
-#[tactic(auto, using(crate::proofs::Kit::sym, crate::proofs::Kit::arith, crate::proofs::Kit::needs, crate::proofs::WordLaws::first_end), unfolding(crate::specs::Fields::field_end, crate::specs::Scans::is_target))]
+#[tactic(auto, using(crate::proofs::WordLaws::first_end), unfolding(crate::specs::Fields::field_end, crate::specs::Scans::is_target))]
 pub fn field_end(attrs: &[u8], cell: usize) -> usize
     ensures { result ≡ field_end attrs.now cell }
 {
@@ -33,7 +33,7 @@ pub fn field_end(attrs: &[u8], cell: usize) -> usize
 }
 
 // The cell after the last one of the edit span, which starts at the cell; `stop` is the end of its line.
-#[tactic(auto, using(crate::proofs::Kit::needs), unfolding(crate::specs::Fields::span_end))]
+#[tactic(auto, unfolding(crate::specs::Fields::span_end))]
 pub fn span_end(suppressed: bool, attrs: &[u8], cell: usize, stop: usize) -> usize
     ensures { result ≡ span_end suppressed attrs.now cell stop }
 {
@@ -45,7 +45,7 @@ pub fn span_end(suppressed: bool, attrs: &[u8], cell: usize, stop: usize) -> usi
 }
 
 // Is some cell from `from` on guarded? A field is guarded as a whole, so one look at each is enough.
-#[tactic(auto, using(crate::proofs::Kit::sym, crate::proofs::Kit::length, crate::proofs::Kit::arith, crate::proofs::Kit::needs, crate::proofs::FieldLaws::end_gt, crate::proofs::FieldLaws::first_past_field, crate::proofs::FieldLaws::some_here, crate::proofs::FieldLaws::some_nowhere))]
+#[tactic(auto, using(crate::proofs::FieldLaws::end_gt, crate::proofs::FieldLaws::first_past_field, crate::proofs::FieldLaws::some_here, crate::proofs::FieldLaws::some_nowhere))]
 pub fn some_guarded(suppressed: bool, attrs: &[u8], from: usize) -> bool
     ensures { result ≡ some_in (guarded_at suppressed attrs.now) from (length attrs.now) }
 {

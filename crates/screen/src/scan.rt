@@ -18,7 +18,7 @@ pub enum Target {
     Open(bool),
 }
 
-#[tactic(auto, using(crate::proofs::Kit::needs), unfolding(crate::specs::Scans::is_target))]
+#[tactic(auto, unfolding(crate::specs::Scans::is_target))]
 fn is_target(attrs: &[u8], target: Target, cell: usize) -> bool
     ensures { result ≡ is_target attrs.now target cell }
 {
@@ -33,7 +33,7 @@ fn is_target(attrs: &[u8], target: Target, cell: usize) -> bool
 }
 
 // The first such cell from `from` on and before `end`, found by blocks and then one by one; none, `none`.
-#[tactic(auto, using(crate::proofs::Kit::sym, crate::proofs::Kit::arith, crate::proofs::Kit::needs, crate::proofs::WordLaws::first_hit, crate::proofs::WordLaws::first_skip, crate::proofs::WordLaws::first_end, crate::proofs::SkipLaws::first_past_none))]
+#[tactic(auto, using(crate::proofs::WordLaws::first_hit, crate::proofs::WordLaws::first_skip, crate::proofs::WordLaws::first_end, crate::proofs::SkipLaws::first_past_none))]
 fn first_by_blocks(attrs: &[u8], target: Target, from: usize, end: usize, none: usize) -> usize
     requires { (0 < from) × (from ≤ end) × (end ≤ length attrs.now) }
     ensures { result ≡ first_of (is_target attrs.now target) none from (end - from) }
@@ -50,7 +50,7 @@ fn first_by_blocks(attrs: &[u8], target: Target, from: usize, end: usize, none: 
 }
 
 // The same, a look at `from` itself before the blocks: most scans are short.
-#[tactic(auto, using(crate::proofs::Kit::sym, crate::proofs::Kit::arith, crate::proofs::Kit::needs, crate::proofs::WordLaws::first_hit, crate::proofs::WordLaws::first_skip, crate::proofs::WordLaws::first_end))]
+#[tactic(auto, using(crate::proofs::WordLaws::first_hit, crate::proofs::WordLaws::first_skip, crate::proofs::WordLaws::first_end))]
 fn first_up_to(attrs: &[u8], target: Target, from: usize, end: usize, none: usize) -> usize
     requires { end ≤ length attrs.now }
     ensures { result ≡ first_of (is_target attrs.now target) none from (end - from) }
@@ -66,7 +66,6 @@ fn first_up_to(attrs: &[u8], target: Target, from: usize, end: usize, none: usiz
 }
 
 // The first such cell from `from` on; none, `none`.
-#[tactic(auto, using(crate::proofs::Kit::needs))]
 pub fn first(attrs: &[u8], target: Target, from: usize, none: usize) -> usize
     ensures { result ≡ first_from (is_target attrs.now target) attrs.now from none }
 {
@@ -74,7 +73,7 @@ pub fn first(attrs: &[u8], target: Target, from: usize, none: usize) -> usize
 }
 
 // The first such cell from `from` on or, where there is none, of all; none, `none`. What has been looked at is not looked at again.
-#[tactic(auto, using(crate::proofs::Kit::needs, crate::proofs::WordLaws::around_found, crate::proofs::WordLaws::around_left))]
+#[tactic(auto, using(crate::proofs::WordLaws::around_found, crate::proofs::WordLaws::around_left))]
 pub fn first_around(attrs: &[u8], target: Target, from: usize, none: usize) -> usize
     ensures { result ≡ first_around (is_target attrs.now target) attrs.now from none }
 {
@@ -86,7 +85,7 @@ pub fn first_around(attrs: &[u8], target: Target, from: usize, none: usize) -> u
 }
 
 // The last such cell before `before`; none, `none`.
-#[tactic(auto, using(crate::proofs::Kit::sym, crate::proofs::Kit::arith, crate::proofs::Kit::needs, crate::proofs::WordLaws::last_hit, crate::proofs::WordLaws::last_skip, crate::proofs::SkipLaws::last_past_none), unfolding(crate::specs::Words::last_of))]
+#[tactic(auto, using(crate::proofs::WordLaws::last_hit, crate::proofs::WordLaws::last_skip, crate::proofs::SkipLaws::last_past_none), unfolding(crate::specs::Words::last_of))]
 pub fn last(attrs: &[u8], target: Target, before: usize, none: usize) -> usize
     ensures { result ≡ last_before (is_target attrs.now target) attrs.now before none }
 {

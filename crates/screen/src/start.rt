@@ -5,7 +5,7 @@ ghost use Rattle.screen.specs.Fields.{starts_at, opens_at};
 use crate::attribute::{attribute_at, is_protected};
 
 // Does a field start at the cell?
-#[tactic(auto, using(crate::proofs::Kit::sym, crate::proofs::Kit::ap, crate::proofs::Kit::needs, crate::proofs::FieldLaws::starts_after), unfolding(crate::specs::Fields::starts_at))]
+#[tactic(auto, using(crate::proofs::FieldLaws::starts_after), unfolding(crate::specs::Fields::starts_at))]
 pub fn starts_at(attrs: &[u8], cell: usize) -> bool
     ensures { result ≡ starts_at attrs.now cell }
 {
@@ -18,7 +18,7 @@ pub fn starts_at(attrs: &[u8], cell: usize) -> bool
 }
 
 // Does an unprotected field start at the cell?
-#[tactic(auto, using(crate::proofs::Kit::sym, crate::proofs::Kit::ap, crate::proofs::Kit::not, crate::proofs::Kit::needs), unfolding(crate::specs::Fields::opens_at))]
+#[tactic(auto, unfolding(crate::specs::Fields::opens_at))]
 pub fn opens_at(attrs: &[u8], cell: usize) -> bool
     ensures { result ≡ opens_at attrs.now cell }
 {

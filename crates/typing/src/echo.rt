@@ -80,7 +80,7 @@ const DISPLAY: u8 = 2;
 const STROKE: u8 = b'\\';
 
 // The set that a key is in under parameter 20; 0 for none.
-#[tactic(auto, using(crate::proofs::Kit::needs, crate::proofs::Kit::ne_eqb, crate::proofs::Kit::tabulate, crate::proofs::Kit::get_d_tabulate), unfolding(crate::proofs::Kit::tabulate, crate::specs::Echo::control_echo, crate::specs::Keys::among, crate::specs::Echo::echo_set))]
+#[tactic(auto, unfolding(crate::proofs::Kit::tabulate, crate::specs::Echo::control_echo, crate::specs::Keys::among, crate::specs::Echo::echo_set))]
 fn echo_set(key: u8) -> u8
     ensures { result ≡ echo_set key }
 {
@@ -94,7 +94,7 @@ fn echo_set(key: u8) -> u8
 }
 
 // Echo is on, and the mask leaves the set of this bit.
-#[tactic(auto, using(crate::proofs::Kit::needs, crate::proofs::Kit::ne_eqb), unfolding(crate::specs::Echo::echoed))]
+#[tactic(auto, unfolding(crate::specs::Echo::echoed))]
 fn is_echoed(values: Values, set: u8) -> bool
     ensures { result ≡ echoed values set }
 {
@@ -102,7 +102,7 @@ fn is_echoed(values: Values, set: u8) -> bool
 }
 
 // A key that is no edit key. A CR may be echoed as CR LF.
-#[tactic(auto, using(crate::proofs::Kit::needs, crate::proofs::Kit::ne_eqb), unfolding(crate::specs::Echo::key_echo))]
+#[tactic(auto, unfolding(crate::specs::Echo::key_echo))]
 fn key_echo(values: Values, key: u8) -> Echo
     ensures { result ≡ key_echo values key }
 {
@@ -122,7 +122,6 @@ fn key_echo(values: Values, key: u8) -> Echo
 }
 
 // What parameter 19 names; 0, nothing, where the editing characters are not echoed.
-#[tactic(auto, using(crate::proofs::Kit::needs))]
 fn signal(values: Values) -> u8
     ensures { result ≡ (if echoed values editing_set then value_of values 19 else 0) }
 {
@@ -133,7 +132,7 @@ fn signal(values: Values) -> u8
 }
 
 // The signal for each of so many characters erased.
-#[tactic(auto, using(crate::proofs::Kit::needs, crate::proofs::Kit::ne_eqb, crate::proofs::EchoLaws::character_by))]
+#[tactic(auto, using(crate::proofs::EchoLaws::character_by))]
 fn character_signal(values: Values, count: u8) -> Echo
     ensures { result ≡ character_signal values count }
 {
@@ -153,7 +152,7 @@ fn character_signal(values: Values, count: u8) -> Echo
 }
 
 // The signal for a line of so many characters.
-#[tactic(auto, using(crate::proofs::Kit::needs, crate::proofs::Kit::ne_eqb, crate::proofs::EchoLaws::line_by_lem))]
+#[tactic(auto, using(crate::proofs::EchoLaws::line_by_lem))]
 fn line_signal(values: Values, count: u8) -> Echo
     ensures { result ≡ line_signal values count }
 {
@@ -166,7 +165,6 @@ fn line_signal(values: Values, count: u8) -> Echo
 }
 
 // A key that waits on a line of so many characters; one that overfills it is not echoed.
-#[tactic(auto, using(crate::proofs::Kit::needs))]
 fn plain_echo(values: Values, length: usize, key: u8) -> Echo
     ensures { result ≡ (if leb capacity length then Echo.Silence else key_echo values key) }
 {
@@ -177,7 +175,7 @@ fn plain_echo(values: Values, length: usize, key: u8) -> Echo
 }
 
 // What is echoed at a key.
-#[tactic(auto, using(crate::proofs::Kit::arith, crate::proofs::Kit::needs), unfolding(crate::specs::Echo::echo_by, crate::specs::Echo::plain_echo))]
+#[tactic(auto, unfolding(crate::specs::Echo::echo_by, crate::specs::Echo::plain_echo))]
 pub fn echo_of(values: Values, line: EditLine, key: u8) -> Echo
     ensures { result ≡ echoing values (text_of line) key }
 {
@@ -198,7 +196,7 @@ const NEW_LINE_LENGTH: usize = 2;
 const STRUCK_LENGTH: usize = 5;
 
 // How many bytes an echo has.
-#[tactic(auto, using(crate::proofs::Kit::sym, crate::proofs::Kit::needs, crate::proofs::EchoLaws::rubouts_length), unfolding(crate::specs::Echo::bytes_of))]
+#[tactic(auto, using(crate::proofs::EchoLaws::rubouts_length), unfolding(crate::specs::Echo::bytes_of))]
 pub fn echo_length(echo: Echo, line: EditLine) -> usize
     ensures { result ≡ length (bytes_of echo (text_of line)) }
 {
@@ -212,7 +210,7 @@ pub fn echo_length(echo: Echo, line: EditLine) -> usize
     }
 }
 
-#[tactic(auto, using(crate::proofs::Kit::sym, crate::proofs::EchoLaws::repeated_past))]
+#[tactic(auto, using(crate::proofs::EchoLaws::repeated_past))]
 fn repeated_at(byte: u8, times: u8, i: usize) -> u8
     ensures { result ≡ get_or (replicate times byte) i 0 }
 {
@@ -223,7 +221,7 @@ fn repeated_at(byte: u8, times: u8, i: usize) -> u8
 }
 
 // BS SPACE BS
-#[tactic(auto, using(crate::proofs::Kit::sym, crate::proofs::EchoLaws::rubout_past, crate::proofs::EchoLaws::rubout_middle, crate::proofs::EchoLaws::rubout_side))]
+#[tactic(auto, using(crate::proofs::EchoLaws::rubout_past, crate::proofs::EchoLaws::rubout_middle, crate::proofs::EchoLaws::rubout_side))]
 fn rubout_at(times: u8, i: usize) -> u8
     ensures { result ≡ get_or (rubouts times) i 0 }
 {
@@ -238,7 +236,7 @@ fn rubout_at(times: u8, i: usize) -> u8
 
 const STRUCK: [u8; STRUCK_LENGTH] = [b'X', b'X', b'X', CR, LF];
 
-#[tactic(auto, using(crate::proofs::Kit::refl, crate::proofs::Kit::needs, pad::proofs::LineLaws::past_end), unfolding(crate::specs::Echo::bytes_of))]
+#[tactic(auto, using(pad::proofs::LineLaws::past_end), unfolding(crate::specs::Echo::bytes_of))]
 fn struck_at(i: usize) -> u8
     ensures { result ≡ get_or (bytes_of Echo.Struck []) i 0 }
 {
@@ -248,7 +246,7 @@ fn struck_at(i: usize) -> u8
     0
 }
 
-#[tactic(auto, using(crate::proofs::Kit::arith, pad::proofs::LineLaws::past_end, crate::proofs::EchoLaws::above), unfolding(crate::specs::Echo::bytes_of))]
+#[tactic(auto, using(pad::proofs::LineLaws::past_end, crate::proofs::EchoLaws::above), unfolding(crate::specs::Echo::bytes_of))]
 fn new_line_at(i: usize) -> u8
     ensures { result ≡ get_or (bytes_of Echo.NewLine []) i 0 }
 {
@@ -260,7 +258,7 @@ fn new_line_at(i: usize) -> u8
 }
 
 // An echo's byte at a place; past the last, 0.
-#[tactic(auto, using(crate::proofs::Kit::needs), unfolding(crate::specs::Echo::bytes_of))]
+#[tactic(auto, unfolding(crate::specs::Echo::bytes_of))]
 pub fn echo_at(echo: Echo, line: EditLine, i: usize) -> u8
     ensures { result ≡ get_or (bytes_of echo (text_of line)) i 0 }
 {

@@ -63,7 +63,6 @@ const ALPHANUMERIC: u8 = 1;
 
 const WITH_DEL: u8 = 8;
 
-#[tactic(auto, using(crate::proofs::Kit::needs))]
 fn is_alphanumeric(key: u8) -> bool
     ensures { result ≡ alphanumeric key }
 {
@@ -77,7 +76,7 @@ fn is_alphanumeric(key: u8) -> bool
 }
 
 // The set that a key is in under parameter 3; 0 for none.
-#[tactic(auto, using(crate::proofs::Kit::needs, crate::proofs::Kit::ne_eqb, crate::proofs::Kit::tabulate, crate::proofs::Kit::get_d_tabulate), unfolding(crate::proofs::Kit::tabulate, crate::specs::Keys::control_set, crate::specs::Keys::among, crate::specs::Keys::forward_set))]
+#[tactic(auto, unfolding(crate::proofs::Kit::tabulate, crate::specs::Keys::control_set, crate::specs::Keys::among, crate::specs::Keys::forward_set))]
 fn forward_set(key: u8) -> u8
     ensures { result ≡ forward_set key }
 {
@@ -94,7 +93,7 @@ fn forward_set(key: u8) -> u8
 }
 
 // No edit key: is it in a set that parameter 3 chooses?
-#[tactic(auto, using(crate::proofs::Kit::needs), unfolding(crate::specs::Keys::forwards))]
+#[tactic(auto, unfolding(crate::specs::Keys::forwards))]
 fn plain_kind(values: Values, key: u8) -> Kind
     ensures { result ≡ plain_kind values key }
 {
@@ -104,7 +103,6 @@ fn plain_kind(values: Values, key: u8) -> Kind
     Kind::Plain
 }
 
-#[tactic(auto, using(crate::proofs::Kit::needs, crate::proofs::Kit::ne_eqb))]
 fn deletes_word(values: Values, key: u8) -> bool
     ensures { result ≡ deletes_word values key }
 {
@@ -112,7 +110,7 @@ fn deletes_word(values: Values, key: u8) -> bool
 }
 
 // An edit key, by the lowest parameter that names it.
-#[tactic(auto, using(crate::proofs::Kit::needs, crate::proofs::Kit::ne_eqb), unfolding(crate::specs::Keys::edit_kind))]
+#[tactic(auto, unfolding(crate::specs::Keys::edit_kind))]
 fn edit_kind(values: Values, key: u8) -> Kind
     ensures { result ≡ edit_kind values key }
 {
@@ -132,7 +130,6 @@ fn edit_kind(values: Values, key: u8) -> Kind
 }
 
 // There are edit keys while parameter 15 is 1, and the value 0 names none.
-#[tactic(auto, using(crate::proofs::Kit::needs, crate::proofs::Kit::ne_eqb))]
 fn is_editing(values: Values, key: u8) -> bool
     ensures { result ≡ editing values key }
 {
@@ -140,7 +137,7 @@ fn is_editing(values: Values, key: u8) -> bool
 }
 
 // What a key is.
-#[tactic(auto, using(crate::proofs::Kit::needs), unfolding(crate::specs::Keys::kind_of))]
+#[tactic(auto, unfolding(crate::specs::Keys::kind_of))]
 pub fn kind_of(values: Values, key: u8) -> Kind
     ensures { result ≡ kind_of values key }
 {
@@ -151,7 +148,7 @@ pub fn kind_of(values: Values, key: u8) -> Kind
 }
 
 // Refusal 10: neither an edit nor a forwarding key, and the line is full.
-#[tactic(auto, using(crate::proofs::Kit::needs), unfolding(crate::specs::Keys::overfills))]
+#[tactic(auto, unfolding(crate::specs::Keys::overfills))]
 pub fn overfills(values: Values, line: EditLine, key: u8) -> bool
     ensures { result ≡ overfills values (text_of line) key }
 {
@@ -166,7 +163,7 @@ pub fn overfills(values: Values, line: EditLine, key: u8) -> bool
 }
 
 // The line after a key.
-#[tactic(auto, using(crate::proofs::Kit::needs), unfolding(crate::specs::Keys::line_after, crate::specs::Keys::line_by))]
+#[tactic(auto, unfolding(crate::specs::Keys::line_after, crate::specs::Keys::line_by))]
 pub fn line_after(values: Values, line: EditLine, key: u8) -> EditLine
     ensures { result ≡ line_of (line_after values (text_of line) key) }
 {

@@ -21,7 +21,6 @@ fn after_cr(lf: bool) -> u8
 }
 
 // A byte, where the buffer has room for it.
-#[tactic(auto, using(crate::proofs::Kit::refl, crate::proofs::Kit::sym, crate::proofs::Kit::set, crate::proofs::Kit::set_out, crate::proofs::Kit::needs))]
 fn put(out: &mut [u8], at: usize, byte: u8) -> usize
     requires { at ≤ 257 }
     ensures { Emitted out.old at (byte ∷ []) out.new result }
@@ -33,7 +32,7 @@ fn put(out: &mut [u8], at: usize, byte: u8) -> usize
 }
 
 // A character as it is sent.
-#[tactic(auto, using(crate::proofs::Kit::needs, crate::proofs::Kit::ne_eqb, crate::proofs::Kit::emitted_then), unfolding(crate::specs::Keys::sentAs))]
+#[tactic(auto, unfolding(crate::specs::Keys::sentAs))]
 fn put_character(out: &mut [u8], at: usize, byte: u8, lf: bool) -> usize
     requires { at ≤ 256 }
     ensures { Emitted out.old at (sent_as lf byte) out.new result }
@@ -46,7 +45,6 @@ fn put_character(out: &mut [u8], at: usize, byte: u8, lf: bool) -> usize
 }
 
 // The line's characters, then the key.
-#[tactic(auto, using(crate::proofs::Kit::arith, crate::proofs::Kit::needs, crate::proofs::Kit::emitted_then, crate::proofs::OutLaws::Sent))]
 fn put_forwarded(lf: bool, line: EditLine, key: u8, out: &mut [u8]) -> usize
     ensures { Emitted out.old 0 (all_sent lf (text_of line ++ (key ∷ []))) out.new result }
 {
@@ -62,7 +60,7 @@ fn put_forwarded(lf: bool, line: EditLine, key: u8, out: &mut [u8]) -> usize
 
 // Writes what goes out from the buffer's start on, and returns how many bytes that are: 258 at the most. A buffer that is too
 // short takes what fits.
-#[tactic(auto, using(crate::proofs::Kit::needs), unfolding(crate::specs::Keys::out_of, crate::specs::Keys::outBy))]
+#[tactic(auto, unfolding(crate::specs::Keys::out_of, crate::specs::Keys::outBy))]
 pub fn write_out(values: Values, line: EditLine, key: u8, out: &mut [u8]) -> usize
     ensures { Emitted out.old 0 (out_of values (text_of line) key) out.new result }
 {

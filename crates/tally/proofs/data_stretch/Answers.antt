@@ -1,0 +1,7 @@
+use Rattle.std.proofs.Common.{refl}
+use Rattle.tally.proofs.Laws.{stretch_lies_here, data_further}
+use Rattle.tally.proofs.data_stretch.Goals as goal
+
+pub returns : goal.returns
+returns c =
+    data_further c.requires.counting.0 c.requires.counting.1 _ c.requires.phase_value c.data_at-stretch.ensures refl

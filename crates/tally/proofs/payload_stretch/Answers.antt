@@ -1,0 +1,7 @@
+use Rattle.std.proofs.Common.{refl}
+use Rattle.tally.proofs.Laws.{stretch_lies_here, payload_further}
+use Rattle.tally.proofs.payload_stretch.Goals as goal
+
+pub returns : goal.returns
+returns c =
+    payload_further c.requires.counting.0 c.requires.counting.1 _ c.requires.phase_value c.payload_at-stretch.ensures _ refl

@@ -65,7 +65,8 @@ def main():
     root = sys.argv[1] if len(sys.argv) > 1 else os.path.dirname(HERE)
     names = table()
     for folder, dirs, files in os.walk(os.path.join(root, "crates")):
-        dirs[:] = [d for d in dirs if d != "out"]
+        if folder.count(os.sep) == os.path.join(root, "crates", "NAME").count(os.sep):
+            dirs[:] = [d for d in dirs if d != "out"]
         for f in files:
             if not f.endswith((".antt", ".rt")):
                 continue

@@ -32,7 +32,7 @@ fn put(out: &mut [u8], at: usize, byte: u8) -> usize
 }
 
 // A character as it is sent.
-#[tactic(auto, unfolding(crate::specs::Keys::sentAs))]
+#[tactic(auto, unfolding(crate::specs::Keys::sent_as))]
 fn put_character(out: &mut [u8], at: usize, byte: u8, lf: bool) -> usize
     requires { at ≤ 256 }
     ensures { Emitted out.old at (sent_as lf byte) out.new result }

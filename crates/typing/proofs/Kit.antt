@@ -16,5 +16,5 @@ unfoldable pub use Rattle.words.specs.Words.{bit, tabulate}
 pub use Rattle.words.specs.Stored.{Emitted}
 pub use Rattle.words.proofs.Laws.{either, true_or_false, less_or_not, not_both, both, above_between, get_d_tabulate}
 pub use Rattle.words.proofs.StoredLaws.{emitted_none, emitted_length, emitted_then}
+
 -- the worked cases are checked before every other proof, so that a wrong definition is refused there, by a title
-use Rattle.typing.proofs.Worked.{worked}

@@ -1,11 +1,7 @@
-use mathlib.Core.Path.{◌≡◌, sym, ◌∙◌}
+use mathlib.Core.Path.{◌≡◌}
 use mathlib.Core.Bool.{true}
 use Prim.Native.Nat.{◌+◌, ◌-◌, ◌≤◌}
-use native.Mathlib.Nat.{add-zero}
-use native.Mathlib.Omega.{arith}
-use borrow.Author.Rules.{rules}
 use Rattle.telnet.specs.Stream.{data_end}
-use Rattle.telnet.proofs.StretchLaws.{end_more}
 use Rattle.telnet.proofs.stretch.all_data.Given as goal
 
 abbrev pub invariant-loop-i : goal.invariant-loop-i

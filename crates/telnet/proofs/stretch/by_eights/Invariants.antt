@@ -1,10 +1,7 @@
-use mathlib.Core.Path.{◌≡◌, refl, ◌∙◌}
+use mathlib.Core.Path.{◌≡◌}
 use Prim.Native.Nat.{◌-◌}
-use native.Mathlib.Omega.{arith}
-use borrow.Author.Rules.{rules}
 use lib.ListN.{length}
 use Rattle.telnet.specs.Stream.{data_end}
-use Rattle.telnet.proofs.StretchLaws.{end_eight}
 use Rattle.telnet.proofs.stretch.by_eights.Given as goal
 
 abbrev pub invariant-loop-at : goal.invariant-loop-at

@@ -1,10 +1,6 @@
-use mathlib.Core.Path.{◌≡◌, ◌∙◌}
+use mathlib.Core.Path.{◌≡◌}
 use Prim.Native.Nat.{◌+◌, ◌-◌, ◌≤◌}
-use native.Mathlib.Nat.{add-zero}
-use native.Mathlib.Omega.{arith}
-use borrow.Author.Rules.{rules}
 use Rattle.telnet.specs.Stream.{data_end}
-use Rattle.telnet.proofs.StretchLaws.{end_hit, end_next}
 use Rattle.telnet.proofs.stretch.in_eight.Given as goal
 
 abbrev pub invariant-loop-i : goal.invariant-loop-i

@@ -1,9 +1,7 @@
-use mathlib.Core.Path.{◌≡◌, refl, sym, ◌∙◌}
+use mathlib.Core.Path.{◌≡◌}
 use Prim.Native.Nat.{◌-◌}
-use borrow.Author.Rules.{rules}
 use lib.ListN.{length}
 use Rattle.telnet.specs.Stream.{data_end}
-use Rattle.telnet.proofs.StretchLaws.{end_hit, end_skip, end_past}
 use Rattle.telnet.proofs.stretch.one_by_one.Given as goal
 
 abbrev pub invariant-loop-at : goal.invariant-loop-at

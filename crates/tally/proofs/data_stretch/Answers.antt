@@ -1,5 +1,5 @@
 use Rattle.std.proofs.Common.{refl}
-use Rattle.tally.proofs.Laws.{stretch_lies_here, data_further}
+use Rattle.tally.proofs.Laws.{data_further}
 use Rattle.tally.proofs.data_stretch.Goals as goal
 
 pub returns : goal.returns

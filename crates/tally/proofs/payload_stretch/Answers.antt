@@ -1,5 +1,5 @@
 use Rattle.std.proofs.Common.{refl}
-use Rattle.tally.proofs.Laws.{stretch_lies_here, payload_further}
+use Rattle.tally.proofs.Laws.{payload_further}
 use Rattle.tally.proofs.payload_stretch.Goals as goal
 
 pub returns : goal.returns

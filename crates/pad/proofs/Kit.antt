@@ -14,5 +14,5 @@ pub use borrow.Author.Tests.{ltb-true, leb-true, eqb-true, eqb-false, lt-ltb, le
 pub use Rattle.words.specs.Words.{if◌then◌else◌, between}
 unfoldable pub use Rattle.words.specs.Words.{bit}
 pub use Rattle.words.proofs.Laws.{either, true_or_false, less_or_not, not_both, and_left, and_right, both, and_true, and_false, in_between, below_between, above_between}
+
 -- the worked cases are checked before every other proof, so that a wrong definition is refused there, by a title
-use Rattle.pad.proofs.Worked.{worked}

@@ -6,3 +6,4 @@ pub mod FieldListLaws
 pub mod FieldListOrder
 pub mod TestLaws
 pub mod SkipLaws
+pub mod OpenAfter

@@ -265,7 +265,6 @@ const CLASSES: [u8; 256] = [
     0, // 255
 ];
 
-#[tactic(auto, using(words::proofs::Laws::get_d_tabulate), unfolding(words::specs::Words::tabulate, crate::specs::Classes::class_of))]
 pub fn class(byte: u8) -> u8
     ensures { result ≡ class_of byte }
 {

@@ -10,7 +10,7 @@ use crate::cell::{Column, Line, Place, cell_of, line_start, on_screen, place_of}
 use crate::scan::Target;
 
 // A place after the cursor's up to which all are guarded; past the last line where none is left.
-#[tactic(auto, using(crate::proofs::CellLaws::byte_product, crate::proofs::CellLaws::next_line, crate::proofs::CellLaws::cell_lt, crate::proofs::CellLaws::cell_of_place, crate::proofs::CellLaws::place_on_screen, crate::proofs::CellLaws::place_whole))]
+#[tactic(auto, using(crate::proofs::CellLaws::byte_product, crate::proofs::CellLaws::cell_lt))]
 fn past_guarded(suppressed: bool, attrs: &[u8], width: u8, height: u8, cursor: Place) -> Place
     requires { (cursor.x.0 < width) × (cursor.y.0 < height) × (length attrs.now ≡ height * width) }
     ensures { PastGuarded suppressed attrs.now width height cursor result }
@@ -21,7 +21,7 @@ fn past_guarded(suppressed: bool, attrs: &[u8], width: u8, height: u8, cursor: P
 }
 
 // (Document 01, code places: a nested scan over lines and positions, left by a label at the first open cell.)
-#[tactic(auto, using(crate::proofs::WordLaws::first_hit, crate::proofs::WordLaws::first_skip, crate::proofs::WordLaws::first_end, crate::proofs::CellLaws::cell_lt, crate::proofs::CellLaws::next_line, crate::proofs::CellLaws::place_of_cell, crate::proofs::SkipLaws::first_past_none), unfolding(crate::specs::Scans::next_open, crate::specs::Scans::is_target))]
+#[tactic(auto, using(crate::proofs::WordLaws::first_hit, crate::proofs::WordLaws::first_skip, crate::proofs::CellLaws::cell_lt, crate::proofs::CellLaws::place_of_cell, crate::proofs::OpenAfter::begins, crate::proofs::OpenAfter::turns, crate::proofs::OpenAfter::ends))]
 fn open_after(suppressed: bool, attrs: &[u8], width: u8, height: u8, cursor: Place) -> Place
     requires { (cursor.x.0 < width) × (cursor.y.0 < height) × (length attrs.now ≡ height * width) }
     ensures { result ≡ place_of width (next_open suppressed attrs.now (cell_of width cursor)) }

@@ -41,7 +41,6 @@ fn from_ahead(part: &[u8], i: usize, by: usize) -> u8
 }
 
 // Every byte `by` places towards the part's start.
-#[tactic(auto, using(crate::proofs::ListLaws::seam_up, crate::proofs::ListLaws::seam_all, crate::proofs::ListLaws::same_read), unfolding(crate::specs::Edits::deleted))]
 fn shift_down(part: &mut [u8], by: usize)
     ensures { part.new ≡ deleted by part.old }
 {
@@ -53,7 +52,7 @@ fn shift_down(part: &mut [u8], by: usize)
 }
 
 // Every byte `by` places towards the part's end.
-#[tactic(auto, using(crate::proofs::ListLaws::seam_down, crate::proofs::ListLaws::seam_all, crate::proofs::ListLaws::same_read), unfolding(crate::specs::Edits::inserted))]
+#[tactic(auto, using(crate::proofs::ListLaws::seam_down, crate::proofs::ListLaws::same_read))]
 fn shift_up(part: &mut [u8], by: usize)
     ensures { part.new ≡ inserted by part.old }
 {
@@ -87,7 +86,7 @@ pub fn shift_range(chars: &mut [u8], from: usize, end: usize, shift: Shift, by: 
 }
 
 // The byte in every cell of the range: an attribute byte, a mark, a space.
-#[tactic(auto, using(crate::proofs::ListLaws::storing_start, crate::proofs::ListLaws::storing_hit, crate::proofs::ListLaws::storing_end, crate::proofs::ListLaws::in_range_lem, crate::proofs::ListLaws::before_range, crate::proofs::ListLaws::after_range), unfolding(crate::specs::Edits::filled))]
+#[tactic(auto, using(crate::proofs::ListLaws::storing_start, crate::proofs::ListLaws::storing_hit, crate::proofs::ListLaws::in_range_lem, crate::proofs::ListLaws::before_range))]
 pub fn fill(bytes: &mut [u8], from: usize, end: usize, byte: u8)
     ensures { bytes.new ≡ filled from end byte bytes.old }
 {
@@ -107,7 +106,7 @@ fn kept(protected: bool, byte: u8) -> u8
 }
 
 // Spaces in the cells of the range that are not protected. The loop stores into each cell, so that the compiler does sixteen at once.
-#[tactic(auto, using(crate::proofs::ListLaws::storing_start, crate::proofs::ListLaws::storing_either, crate::proofs::ListLaws::storing_end, crate::proofs::ListLaws::before_range, crate::proofs::EditLaws::erasing, crate::proofs::EditLaws::not_erased), unfolding(crate::specs::Edits::erased))]
+#[tactic(auto, using(crate::proofs::ListLaws::storing_start, crate::proofs::ListLaws::before_range))]
 fn erase_unprotected(chars: &mut [u8], attrs: &[u8], from: usize, end: usize)
     ensures { chars.new ≡ erased false chars.old attrs.now from end }
 {

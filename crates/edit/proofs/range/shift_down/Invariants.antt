@@ -1,0 +1,10 @@
+use Rattle.edit.proofs.Kit.{◌-◌, ◌≤◌, length, get_or}
+use Rattle.edit.specs.Edits.{deleted_cell}
+use Rattle.edit.proofs.ListLaws.{Seam}
+use Rattle.edit.proofs.range.shift_down.Given as goal
+
+abbrev pub invariant-loop-i : goal.invariant-loop-i
+invariant-loop-i l = (l.i ≤ length l.fn.part) × Seam (deleted_cell l.by l.fn.part) (λ k. get_or l.fn.part k 0) (length l.fn.part) l.i l.part
+
+abbrev pub decreases-loop-i : goal.decreases-loop-i
+decreases-loop-i l = length l.fn.part - l.i

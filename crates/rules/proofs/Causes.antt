@@ -489,7 +489,7 @@ same_run a s (b ∷ bs) n =
     let may = may_change a (cause_of (view_of s) r p (read_of r.phase b).event) in
     same_then a s (host_byte s b).state _
     (same_applied a s _ _ _ (not-true _ (and_left (not may) _ n)) (leaves_event (view_of s) r p _) (leaves_pad (view_of s) r p _))
-    (same_run a _ bs (and_right (not may) _ n))
+    (same_run a (host_byte s b).state bs (and_right (not may) _ n))
 
 pub nothing_else : NothingElse
 unfolding called host_bytes one_key unless causes_of none_changes

@@ -40,7 +40,7 @@ use Rattle.rules.specs.Operation.{
   blank,
   opened,
 }
-use Rattle.rules.specs.Call.{called}
+use Rattle.rules.specs.Call.{called, left}
 use Rattle.rules.specs.Cases.Vocabulary.{
   look,
   lent,
@@ -294,7 +294,7 @@ open_tell m n named b =
 trials_tell : (s : State) (ts : List Trial) → observed_in s ts ≡ full_in ts (told_in s ts)
 unfolding observed_in told_in full_in
 trials_tell s [] = refl
-trials_tell s (t ∷ ts) = ap₂ ◌∷◌ (call_tell s t.given t.room) (trials_tell _ ts)
+trials_tell s (t ∷ ts) = ap₂ ◌∷◌ (call_tell s t.given t.room) (trials_tell (left (called s (call_with t.given t.room))) ts)
 
 case_tell : (c : Case) → observed_of c ≡ full_of c (told c)
 case_tell (case title s ts) = trials_tell s ts

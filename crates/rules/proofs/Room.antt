@@ -62,7 +62,7 @@ replies_fit {s = s} k free (b ∷ bs) =
     let one = host_byte s b in
     either (λ n. length (running s (take n (b ∷ bs))).replies ≤ free) (leb (reply_room s.session.frame) free)
     (λ e. rw length-append
-    (omega (arith, leb-true, room_byte k b, replies_fit (sound_byte k b) (free - length one.replies) bs)))
+    (omega (arith, leb-true, room_byte k b, replies_fit {s = one.state} (sound_byte k b) (free - length one.replies) bs)))
     (λ e. omega arith)
 
 -- a call that is not refused takes at least one byte, if there is one

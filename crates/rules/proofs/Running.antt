@@ -6,7 +6,7 @@ use native.Mathlib.Numerals.{add-one}
 use native.Mathlib.Omega.{arith}
 use borrow.Author.Tests.{leb-true, le-leb, lt-leb}
 use lib.Dec.{leb}
-use lib.ListN.{length, length-append, get_or, take, drop, drop_of_length-le}
+use lib.ListN.{length, length-append, get_or, drop, drop_of_length-le}
 use lib.Seq.{drop-cons, take-length, take-append_seam}
 use Rattle.words.proofs.Laws.{either}
 use Rattle.rules.specs.declared.Refusal.TheVariants.{Taken}
@@ -63,7 +63,8 @@ unfolding taken_of
 more_room s a c [] h e = refl
 more_room s a c (x ∷ xs) h e =
     let f = first_taken s a x xs e in
-    one_taken s c x xs (omega arith) ∙ ap suc (more_room _ (a - length (host_byte s x).replies) _ xs (omega arith) f.1)
+    one_taken s c x xs (omega arith)
+    ∙ ap suc (more_room (host_byte s x).state (a - length (host_byte s x).replies) _ xs (omega arith) f.1)
 
 all_taken : {m n : ℕ} {s : State} → Sound m n s → (a b c : ℕ) (xs ys : List ℕ) → taken_of s a xs ≡ length xs
     → taken_of (running s xs).state b ys ≡ length ys → a + b ≤ c → taken_of s c (xs ++ ys) ≡ length (xs ++ ys)
@@ -73,7 +74,7 @@ all_taken {s = s} k a b c (x ∷ xs) ys e d h =
     let f = first_taken s a x xs e in
     let r = room_byte k x in
     one_taken s c x (xs ++ ys) (omega arith)
-    ∙ ap suc (all_taken (sound_byte k x) (a - length (host_byte s x).replies) b _ xs ys f.1 d (omega arith))
+    ∙ ap suc (all_taken {s = (host_byte s x).state} (sound_byte k x) (a - length (host_byte s x).replies) b _ xs ys f.1 d (omega arith))
 
 -- bytes that draw no reply are all taken, where there is room for one
 pub silent_taken : {m n : ℕ} {s : State} → Sound m n s → (free : ℕ) (xs ys : List ℕ) → reply_room s.session.frame ≤ free
@@ -84,7 +85,7 @@ silent_taken {s = s} k free (x ∷ xs) ys r e =
     let one = host_byte s x in
     let both = length-append one.replies (running one.state xs).replies in
     let same : free - length one.replies ≡ free = omega arith in
-    let rest = silent_taken (sound_byte k x) free xs ys (rw (room_is (sound_byte k x), ← room_is k) r) (omega arith) in
+    let rest = silent_taken {s = one.state} (sound_byte k x) free xs ys (rw (room_is (sound_byte k x), ← room_is k) r) (omega arith) in
     one_taken s free x (xs ++ ys) r ∙ rw same (omega (arith, rest))
 
 -- ---- two calls, or one

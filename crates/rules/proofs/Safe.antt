@@ -143,6 +143,7 @@ pub still_twins : {attrs c₀ d₀ c d : List ℕ} (chs : List Change) → All (
     → Twins attrs c₀ d₀ (changed_all c attrs chs) (changed_all d attrs chs)
 unfolding changed_all
 still_twins [] s w = w
-still_twins {attrs} (ch ∷ chs) s w =
+still_twins {attrs} {c = c} {d = d} (ch ∷ chs) s w =
     let e = safe_changed attrs ch s.0 in
-    still_twins chs s.1 (record { alike = still_alike e w.alike; first = still_kept e w.first; second = still_kept e w.second })
+    still_twins {c = changed c attrs ch} {d = changed d attrs ch} chs s.1
+    (record { alike = still_alike e w.alike; first = still_kept e w.first; second = still_kept e w.second })

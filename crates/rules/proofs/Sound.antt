@@ -82,7 +82,7 @@ module _ {m n : ℕ} {s : State} (k : Sound m n s) where
 pub sound_running : {m n : ℕ} {s : State} → Sound m n s → (bs : List ℕ) → Sound m n (running s bs).state
 unfolding running
 sound_running k [] = k
-sound_running k (b ∷ bs) = sound_running (sound_byte k b) bs
+sound_running {s = s} k (b ∷ bs) = sound_running {s = (host_byte s b).state} (sound_byte k b) bs
 
 sound_ran : {m n : ℕ} {s : State} → Sound m n s → (c : Call) → Sound m n (ran_by s c).state
 sound_ran k (host input reply) = sound_running k _
@@ -96,7 +96,7 @@ sound_called {m} {n} {s} k c = called_cases (λ o. Sound m n (left o)) s c (λ t
 pub sound_after : {m n : ℕ} {s : State} → Sound m n s → (calls : List Call) → Sound m n (state_after s calls)
 unfolding state_after
 sound_after k [] = k
-sound_after k (c ∷ cs) = sound_after (sound_called k c) cs
+sound_after {s = s} k (c ∷ cs) = sound_after {s = left (called s c)} (sound_called k c) cs
 
 -- ---- from the tests, and back
 

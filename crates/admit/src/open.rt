@@ -80,8 +80,8 @@ pub fn open(
     attrs: &mut [u8],
     marks: &mut [u8],
 ) -> Answer
-    ensures { outcome result (lent chars.exit attrs.exit marks.exit) []
-        ≡ opened width height named (lent chars.entry attrs.entry marks.entry) }
+    ensures { outcome result (lent chars.new attrs.new marks.new) []
+        ≡ opened width height named (lent chars.old attrs.old marks.old) }
 {
     let why = refuse_open(width, height, named, chars, attrs, marks);
     let Refusal::Taken = why else {

@@ -164,7 +164,7 @@ pub(crate) fn refuse_open(
     marks: &[u8],
 ) -> Refusal
     ensures { result ≡ verdict (open_tests (fresh_frame m n (edition_of named)) named
-        (lent chars.entry attrs.entry marks.entry)) }
+        (lent chars.now attrs.now marks.now)) }
 {
     let sized = sizes_ok(m, n);
     if !sized {
@@ -184,7 +184,7 @@ pub(crate) fn refuse_open(
 // Refusals 1 and 2, of a session.
 #[tactic(auto, using(screen::proofs::TestLaws::failing, screen::proofs::TestLaws::passing, crate::proofs::RefuseLaws::few), unfolding(rules::specs::Refusal::verdict, rules::specs::Refusal::size_tests))]
 fn refuse_sizes(frame: Frame, chars: &[u8], attrs: &[u8], marks: &[u8]) -> Refusal
-    ensures { result ≡ verdict (size_tests frame (lent chars.entry attrs.entry marks.entry)) }
+    ensures { result ≡ verdict (size_tests frame (lent chars.now attrs.now marks.now)) }
 {
     let m = frame.width as usize;
     let n = frame.height as usize;
@@ -226,7 +226,7 @@ fn refuse_state(session: Session, chars: &[u8], marks: &[u8], reply: &[u8]) -> R
 // Refusals 1 to 5 and 11, of host bytes and of a key.
 #[tactic(auto, using(crate::proofs::RefuseLaws::passed_on, crate::proofs::RefuseLaws::failed_first, command::proofs::RefusalLaws::not_taken), unfolding(rules::specs::Refusal::size_tests))]
 pub fn refuse(session: Session, chars: &[u8], attrs: &[u8], marks: &[u8], reply: &[u8]) -> Refusal
-    ensures { result ≡ host_refusal (state session (lent chars.entry attrs.entry marks.entry)) reply.now }
+    ensures { result ≡ host_refusal (state session (lent chars.now attrs.now marks.now)) reply.now }
 {
     let why = refuse_sizes(session.frame, chars, attrs, marks);
     let Refusal::Taken = why else {

@@ -33,7 +33,7 @@ pub fn format_end(frame: Frame, held: Held) -> usize
 // The ERROR that FORMAT DATA's values draw: map bits, then more cells than remain.
 #[tactic(auto, unfolding(rules::specs::Command::value_fault))]
 fn format_fault(frame: Frame, attrs: &[u8], held: Held) -> Fault
-    ensures { result ≡ value_fault (seen frame attrs.entry) Command.FormatData held }
+    ensures { result ≡ value_fault (seen frame attrs.now) Command.FormatData held }
 {
     if 31 < first_parameter(held) {
         return Fault::BadMap;
@@ -53,7 +53,7 @@ fn is_verb(byte: u8) -> bool
 // The ERROR that the parameters' values draw, their count being right.
 #[tactic(auto, using(crate::proofs::FaultLaws::any_values), unfolding(rules::specs::Command::value_fault))]
 fn value_fault(frame: Frame, attrs: &[u8], command: Command, held: Held) -> Fault
-    ensures { result ≡ value_fault (seen frame attrs.entry) command held }
+    ensures { result ≡ value_fault (seen frame attrs.now) command held }
 {
     match command {
         Command::MoveCursor => {
@@ -81,7 +81,7 @@ pub fn fault_of(
     governor: Governor,
     held: Held,
 ) -> Fault
-    ensures { result ≡ fault_of (seen frame attrs.entry) command parameters governor held }
+    ensures { result ≡ fault_of (seen frame attrs.now) command parameters governor held }
 {
     let edition = frame.edition;
     let maps = frame.received;

@@ -54,7 +54,7 @@ pub fn cursor_cell(frame: Frame) -> usize
 }
 
 pub fn cursor_guarded(frame: Frame, attrs: &[u8]) -> bool
-    ensures { result ≡ cursor_guarded (seen frame attrs.entry) }
+    ensures { result ≡ cursor_guarded (seen frame attrs.now) }
 {
     let cell = cursor_cell(frame);
     is_guarded(frame.suppressed, attrs, cell)
@@ -63,7 +63,7 @@ pub fn cursor_guarded(frame: Frame, attrs: &[u8]) -> bool
 // Is the cursor on the screen, with an attribute byte for each cell?
 #[tactic(auto, using(screen::proofs::CellLaws::byte_product))]
 pub fn fits(frame: Frame, attrs: &[u8]) -> bool
-    ensures { result ≡ fitting (seen frame attrs.entry) }
+    ensures { result ≡ fitting (seen frame attrs.now) }
 {
     let cursor = frame.cursor;
     let on = on_screen(frame.width, frame.height, cursor);

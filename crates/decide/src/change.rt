@@ -31,8 +31,8 @@ fn erase_range(frame: Frame, from: usize, end: usize) -> Decision
 // 29: all spaces, attributes 0, marks 0, cursor (0,0).
 #[tactic(auto, using(edit::proofs::EditLaws::all_zeros), unfolding(rules::specs::Subcommand::erasure))]
 fn erase_screen(frame: Frame, attrs: &[u8]) -> Decision
-    requires { Fits (seen frame attrs) }
-    ensures { Decides (seen frame attrs.entry) result (λ v. erasure v Area.WholeScreen) }
+    requires { Fits (seen frame attrs.now) }
+    ensures { Decides (seen frame attrs.now) result (λ v. erasure v Area.WholeScreen) }
 {
     Decision {
         frame: sent_to(frame, attrs, Destination::Corner),
@@ -54,8 +54,8 @@ fn erase_screen(frame: Frame, attrs: &[u8]) -> Decision
 // 35: spaces in all unprotected cells, marks 0, and the cursor as after 21.
 #[tactic(auto, unfolding(rules::specs::Subcommand::erasure))]
 fn erase_unprotected(frame: Frame, attrs: &[u8]) -> Decision
-    requires { Fits (seen frame attrs) }
-    ensures { Decides (seen frame attrs.entry) result (λ v. erasure v Area.Unprotected) }
+    requires { Fits (seen frame attrs.now) }
+    ensures { Decides (seen frame attrs.now) result (λ v. erasure v Area.Unprotected) }
 {
     Decision {
         frame: sent_to(frame, attrs, Destination::FirstField),
@@ -72,8 +72,8 @@ fn erase_unprotected(frame: Frame, attrs: &[u8]) -> Decision
 
 #[tactic(auto, unfolding(rules::specs::Subcommand::erasure))]
 pub(crate) fn erase(frame: Frame, attrs: &[u8], area: Area) -> Decision
-    requires { Fits (seen frame attrs) }
-    ensures { Decides (seen frame attrs.entry) result (λ v. erasure v area) }
+    requires { Fits (seen frame attrs.now) }
+    ensures { Decides (seen frame attrs.now) result (λ v. erasure v area) }
 {
     let cell = cursor_cell(frame);
     let y = frame.cursor.y;
@@ -91,7 +91,7 @@ pub(crate) fn erase(frame: Frame, attrs: &[u8], area: Area) -> Decision
 
 // The end of the cursor's edit span.
 fn cursor_span_end(frame: Frame, attrs: &[u8]) -> usize
-    ensures { result ≡ cursor_span_end (seen frame attrs.entry) }
+    ensures { result ≡ cursor_span_end (seen frame attrs.now) }
 {
     let y = frame.cursor.y;
     span_end(
@@ -105,7 +105,7 @@ fn cursor_span_end(frame: Frame, attrs: &[u8]) -> usize
 // 15, 16: nothing on a guarded cell.
 #[tactic(auto, using(crate::proofs::ObeyLaws::shift_not, crate::proofs::ObeyLaws::shift_span))]
 pub(crate) fn char_shift(frame: Frame, attrs: &[u8], shift: Shift) -> Decision
-    ensures { Decides (seen frame attrs.entry) result (λ v. shifting v shift) }
+    ensures { Decides (seen frame attrs.now) result (λ v. shifting v shift) }
 {
     let guarded = cursor_guarded(frame, attrs);
     if guarded {
@@ -125,7 +125,7 @@ pub(crate) fn char_shift(frame: Frame, attrs: &[u8], shift: Shift) -> Decision
 // 13, 14: nothing where a cell from the start of the line on is guarded.
 #[tactic(auto, using(crate::proofs::ObeyLaws::lines_not, crate::proofs::ObeyLaws::lines_shifted))]
 pub(crate) fn line_shift(frame: Frame, attrs: &[u8], shift: Shift) -> Decision
-    ensures { Decides (seen frame attrs.entry) result (λ v. line_shifting v shift) }
+    ensures { Decides (seen frame attrs.now) result (λ v. line_shifting v shift) }
 {
     let from = line_start(frame.width, frame.cursor.y);
     let guarded = some_guarded(frame.suppressed, attrs, from);

@@ -168,7 +168,7 @@ pub(crate) fn next_cell(frame: Frame) -> Place
 
 #[tactic(auto, unfolding(screen::specs::Scans::is_target, rules::specs::Cursor::home_cell))]
 fn home_cell(frame: Frame, attrs: &[u8]) -> usize
-    ensures { result ≡ home_cell (seen frame attrs.entry) }
+    ensures { result ≡ home_cell (seen frame attrs.now) }
 {
     if frame.suppressed {
         return 0;
@@ -178,7 +178,7 @@ fn home_cell(frame: Frame, attrs: &[u8]) -> usize
 
 #[tactic(auto, unfolding(screen::specs::Scans::is_target, rules::specs::Cursor::back_tab_cell))]
 fn back_tab_cell(frame: Frame, attrs: &[u8]) -> usize
-    ensures { result ≡ back_tab_cell (seen frame attrs.entry) }
+    ensures { result ≡ back_tab_cell (seen frame attrs.now) }
 {
     if frame.suppressed {
         return 0;
@@ -188,14 +188,14 @@ fn back_tab_cell(frame: Frame, attrs: &[u8]) -> usize
 
 #[tactic(auto, unfolding(screen::specs::Scans::is_target, rules::specs::Cursor::first_field_cell))]
 fn first_field_cell(frame: Frame, attrs: &[u8], none: usize) -> usize
-    ensures { result ≡ first_field_cell (seen frame attrs.entry) none }
+    ensures { result ≡ first_field_cell (seen frame attrs.now) none }
 {
     first(attrs, Target::UnprotectedStart, 0, none)
 }
 
 #[tactic(auto, using(screen::proofs::CellLaws::byte_product), unfolding(screen::specs::Scans::is_target, rules::specs::Cursor::first_field_cell, rules::specs::Cursor::next_field_cell))]
 fn next_field_cell(frame: Frame, attrs: &[u8]) -> usize
-    ensures { result ≡ next_field_cell (seen frame attrs.entry) }
+    ensures { result ≡ next_field_cell (seen frame attrs.now) }
 {
     let cell = cursor_cell(frame);
     first_around(attrs, Target::UnprotectedStart, cell + 1, cell)
@@ -203,7 +203,7 @@ fn next_field_cell(frame: Frame, attrs: &[u8]) -> usize
 
 #[tactic(auto, unfolding(screen::specs::Scans::is_target, rules::specs::Cursor::previous_open_cell))]
 fn previous_open_cell(frame: Frame, attrs: &[u8]) -> usize
-    ensures { result ≡ previous_open_cell (seen frame attrs.entry) }
+    ensures { result ≡ previous_open_cell (seen frame attrs.now) }
 {
     let cell = cursor_cell(frame);
     last(attrs, Target::Open(frame.suppressed), cell, cell)
@@ -212,8 +212,8 @@ fn previous_open_cell(frame: Frame, attrs: &[u8]) -> usize
 // After a typed character.
 #[tactic(auto, using(crate::proofs::WriteLaws::next_open_is))]
 pub(crate) fn next_open_place(frame: Frame, attrs: &[u8]) -> Place
-    requires { Fits (seen frame attrs) }
-    ensures { result ≡ destination (seen frame attrs.entry) Destination.NextOpen }
+    requires { Fits (seen frame attrs.now) }
+    ensures { result ≡ destination (seen frame attrs.now) Destination.NextOpen }
 {
     let cursor = frame.cursor;
     next_open(frame.suppressed, attrs, frame.width, frame.height, cursor)
@@ -222,8 +222,8 @@ pub(crate) fn next_open_place(frame: Frame, attrs: &[u8]) -> Place
 // Any of them.
 #[tactic(auto, using(crate::proofs::ObeyLaws::origin_lt, crate::proofs::ObeyLaws::home_lt, crate::proofs::ObeyLaws::back_tab_lt, crate::proofs::ObeyLaws::first_field_lt, crate::proofs::ObeyLaws::next_field_lt, crate::proofs::ObeyLaws::previous_open_lt), unfolding(rules::specs::Cursor::destination))]
 pub(crate) fn destination(frame: Frame, attrs: &[u8], to: Destination) -> Place
-    requires { Fits (seen frame attrs) }
-    ensures { result ≡ destination (seen frame attrs.entry) to }
+    requires { Fits (seen frame attrs.now) }
+    ensures { result ≡ destination (seen frame attrs.now) to }
 {
     let x = frame.cursor.x.0;
     let y = frame.cursor.y.0;
@@ -247,8 +247,8 @@ pub(crate) fn destination(frame: Frame, attrs: &[u8], to: Destination) -> Place
 
 // The frame with the cursor sent there.
 pub(crate) fn sent_to(frame: Frame, attrs: &[u8], to: Destination) -> Frame
-    requires { Fits (seen frame attrs) }
-    ensures { result ≡ placed frame (destination (seen frame attrs.entry) to) }
+    requires { Fits (seen frame attrs.now) }
+    ensures { result ≡ placed frame (destination (seen frame attrs.now) to) }
 {
     moved(frame, destination(frame, attrs, to))
 }

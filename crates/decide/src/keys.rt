@@ -62,7 +62,7 @@ fn refuse_typed(fate: Fate) -> Refusal
 // Refusals 9, 8, 6 and 7.
 #[tactic(auto, using(crate::proofs::WriteLaws::refused_by_fate), unfolding(rules::specs::Key::needs_of, rules::specs::Refusal::verdict, rules::specs::Key::key_tests))]
 pub fn refuse_pressed(frame: Frame, attrs: &[u8], key: Key) -> Refusal
-    ensures { result ≡ verdict (key_tests (seen frame attrs.entry) key) }
+    ensures { result ≡ verdict (key_tests (seen frame attrs.now) key) }
 {
     match key {
         Key::Typed(byte) => {
@@ -96,9 +96,9 @@ pub fn refuse_pressed(frame: Frame, attrs: &[u8], key: Key) -> Refusal
 // A character that is not refused is written at the cursor.
 #[tactic(auto, using(crate::proofs::DecideLaws::decides, crate::proofs::WriteLaws::typed), unfolding(rules::specs::Key::pressed))]
 fn type_in(frame: Frame, attrs: &[u8], byte: u8) -> Decision
-    requires fits { Fits (seen frame attrs) }
-    requires byte_value { verdict (key_tests (seen frame attrs) (Key.Typed byte)) ≡ Refusal.Taken }
-    ensures { Decides (seen frame attrs.entry) result (λ v. pressed v (Key.Typed byte)) }
+    requires fits { Fits (seen frame attrs.now) }
+    requires byte_value { verdict (key_tests (seen frame attrs.now) (Key.Typed byte)) ≡ Refusal.Taken }
+    ensures { Decides (seen frame attrs.now) result (λ v. pressed v (Key.Typed byte)) }
 {
     let writing = write(frame, attrs, Writer::Operator, byte);
     let next = writing.cursor;
@@ -115,9 +115,9 @@ fn type_in(frame: Frame, attrs: &[u8], byte: u8) -> Decision
 // What a key does that is not refused.
 #[tactic(auto, using(crate::proofs::DecideLaws::decides), unfolding(rules::specs::Key::pressed))]
 fn press_taken(frame: Frame, attrs: &[u8], key: Key) -> Decision
-    requires fits { Fits (seen frame attrs) }
-    requires key_value { verdict (key_tests (seen frame attrs) key) ≡ Refusal.Taken }
-    ensures { Decides (seen frame attrs.entry) result (λ v. pressed v key) }
+    requires fits { Fits (seen frame attrs.now) }
+    requires key_value { verdict (key_tests (seen frame attrs.now) key) ≡ Refusal.Taken }
+    ensures { Decides (seen frame attrs.now) result (λ v. pressed v key) }
 {
     match key {
         Key::Typed(byte) => type_in(frame, attrs, byte),
@@ -142,7 +142,7 @@ fn press_taken(frame: Frame, attrs: &[u8], key: Key) -> Decision
 // What a key does. Nothing is done where it is refused, nor where the cursor is off the screen or the attribute bytes are not the screen's.
 #[tactic(auto, using(crate::proofs::DecideLaws::fits_found, crate::proofs::DecideLaws::where_fits_lem, crate::proofs::DecideLaws::where_not, command::proofs::RefusalLaws::not_taken, crate::proofs::WriteLaws::pressed_not, crate::proofs::WriteLaws::pressed_taken))]
 pub fn press(frame: Frame, attrs: &[u8], key: Key) -> Decision
-    ensures { Decides (seen frame attrs.entry) result (where_fits (λ v. pressed_if_taken v key)) }
+    ensures { Decides (seen frame attrs.now) result (where_fits (λ v. pressed_if_taken v key)) }
 {
     let fit = fits(frame, attrs);
     if !fit {

@@ -150,8 +150,8 @@ fn suppress(frame: Frame, parameter: u8) -> Decision
 // A command that draws no ERROR.
 #[tactic(auto, using(crate::proofs::ObeyLaws::repeated), unfolding(rules::specs::Subcommand::obeyed))]
 fn obey(frame: Frame, attrs: &[u8], command: Command, held: Held) -> Decision
-    requires { Fits (seen frame attrs) }
-    ensures { Decides (seen frame attrs.entry) result (λ v. obeyed v command held) }
+    requires { Fits (seen frame attrs.now) }
+    ensures { Decides (seen frame attrs.now) result (λ v. obeyed v command held) }
 {
     match command {
         Command::Facilities(facility) => facilities(frame, facility, held),
@@ -203,8 +203,8 @@ fn judge(
     governor: Governor,
     held: Held,
 ) -> Decision
-    requires { Fits (seen frame attrs) }
-    ensures { Judges (seen frame attrs.entry) result command parameters governor held }
+    requires { Fits (seen frame attrs.now) }
+    ensures { Judges (seen frame attrs.now) result command parameters governor held }
 {
     let fault = fault_of(frame, attrs, command, parameters, governor, held);
     let number = code(held);
@@ -218,8 +218,8 @@ fn judge(
 // A subnegotiation of option 20 that ended while DET is on, with these bytes held.
 #[tactic(auto, using(crate::proofs::DecideLaws::recast, crate::proofs::ObeyLaws::looked_known, crate::proofs::ObeyLaws::looked_unknown), unfolding(rules::specs::Subcommand::subcommand))]
 fn obey_held(frame: Frame, attrs: &[u8], held: Held) -> Decision
-    requires { Fits (seen frame attrs) }
-    ensures { Decides (seen frame attrs.entry) result (λ v. subcommand v held) }
+    requires { Fits (seen frame attrs.now) }
+    ensures { Decides (seen frame attrs.now) result (λ v. subcommand v held) }
 {
     let count = held.count;
     if count == 0 {
@@ -241,8 +241,8 @@ fn obey_held(frame: Frame, attrs: &[u8], held: Held) -> Decision
 // A subnegotiation that ended: obeyed if it was option 20's and DET is on.
 #[tactic(auto, using(crate::proofs::DecideLaws::decides, crate::proofs::DecideLaws::recast), unfolding(crate::specs::Decision::ended_det))]
 fn end_fitting(frame: Frame, attrs: &[u8], held: Held, option: u8) -> Decision
-    requires { Fits (seen frame attrs) }
-    ensures { Decides (seen frame attrs.entry) result (λ v. ended_det v held option) }
+    requires { Fits (seen frame attrs.now) }
+    ensures { Decides (seen frame attrs.now) result (λ v. ended_det v held option) }
 {
     if option != DET {
         return quiet(frame);
@@ -256,7 +256,7 @@ fn end_fitting(frame: Frame, attrs: &[u8], held: Held, option: u8) -> Decision
 // The same of any frame: nothing is done where the cursor is off the screen or the attribute bytes are not the screen's.
 #[tactic(auto, using(crate::proofs::DecideLaws::fits_found, crate::proofs::DecideLaws::where_fits_lem, crate::proofs::DecideLaws::where_not))]
 pub fn decide_end(frame: Frame, attrs: &[u8], held: Held, option: u8) -> Decision
-    ensures { Decides (seen frame attrs.entry) result (where_fits (λ v. ended_det v held option)) }
+    ensures { Decides (seen frame attrs.now) result (where_fits (λ v. ended_det v held option)) }
 {
     let fit = fits(frame, attrs);
     if fit {

@@ -40,7 +40,7 @@ pub struct Writing {
 
 // Class is tested for the operator alone, and not while suppressed.
 fn class_allows(frame: Frame, attrs: &[u8], byte: u8) -> bool
-    ensures { result ≡ class_allows (seen frame attrs.entry) (λ attr. takes attr byte) }
+    ensures { result ≡ class_allows (seen frame attrs.now) (λ attr. takes attr byte) }
 {
     if frame.suppressed {
         return true;
@@ -51,7 +51,7 @@ fn class_allows(frame: Frame, attrs: &[u8], byte: u8) -> bool
 
 #[tactic(auto, unfolding(crate::specs::Writing::fate_of))]
 pub(crate) fn judge_character(frame: Frame, attrs: &[u8], writer: Writer, byte: u8) -> Fate
-    ensures { result ≡ fate_of writer (seen frame attrs.entry) byte }
+    ensures { result ≡ fate_of writer (seen frame attrs.now) byte }
 {
     let guarded = cursor_guarded(frame, attrs);
     match writer {
@@ -77,8 +77,8 @@ pub(crate) fn judge_character(frame: Frame, attrs: &[u8], writer: Writer, byte: 
 // Where the cursor goes after a character: to the next cell, or to the next that is not guarded.
 #[tactic(auto, unfolding(rules::specs::Cursor::destination))]
 fn place_after(frame: Frame, attrs: &[u8], writer: Writer) -> Place
-    requires { Ready writer (seen frame attrs) }
-    ensures { result ≡ place_after writer (seen frame attrs.entry) }
+    requires { Ready writer (seen frame attrs.now) }
+    ensures { result ≡ place_after writer (seen frame attrs.now) }
 {
     match writer {
         Writer::Host => next_cell(frame),
@@ -89,8 +89,8 @@ fn place_after(frame: Frame, attrs: &[u8], writer: Writer) -> Place
 // Writes a character at the cursor, or does not, and tells which. All that write go by this: host text, REPEAT and typing.
 #[tactic(auto, using(crate::proofs::WriteLaws::not_moved), unfolding(crate::specs::Writing::after_fate))]
 pub(crate) fn write(frame: Frame, attrs: &[u8], writer: Writer, byte: u8) -> Writing
-    requires { Ready writer (seen frame attrs) }
-    ensures { Writes (seen frame attrs.entry) writer byte result }
+    requires { Ready writer (seen frame attrs.now) }
+    ensures { Writes (seen frame attrs.now) writer byte result }
 {
     let fate = judge_character(frame, attrs, writer, byte);
     let Fate::Written = fate else {
@@ -108,7 +108,7 @@ pub(crate) fn write(frame: Frame, attrs: &[u8], writer: Writer, byte: u8) -> Wri
 
 // A character from the host.
 pub fn write_host(frame: Frame, attrs: &[u8], byte: u8) -> Writing
-    ensures { Writes (seen frame attrs.entry) Writer.Host byte result }
+    ensures { Writes (seen frame attrs.now) Writer.Host byte result }
 {
     write(frame, attrs, Writer::Host, byte)
 }

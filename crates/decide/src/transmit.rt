@@ -31,8 +31,8 @@ fn send(frame: Frame, place: Place, from: usize, end: usize) -> Decision
 // 20: the cursor goes to the corner, which is also the first cell sent.
 #[tactic(auto, unfolding(rules::specs::Subcommand::transmitted))]
 fn send_screen(frame: Frame, attrs: &[u8]) -> Decision
-    requires { Fits (seen frame attrs) }
-    ensures { Decides (seen frame attrs.entry) result (λ v. transmitted v Area.WholeScreen) }
+    requires { Fits (seen frame attrs.now) }
+    ensures { Decides (seen frame attrs.now) result (λ v. transmitted v Area.WholeScreen) }
 {
     let next = sent_to(frame, attrs, Destination::Corner);
     let corner = next.cursor;
@@ -42,8 +42,8 @@ fn send_screen(frame: Frame, attrs: &[u8]) -> Decision
 // 22: the cursor goes to the start of the next line.
 #[tactic(auto, using(crate::proofs::ObeyLaws::line_in), unfolding(rules::specs::Cursor::destination, rules::specs::Subcommand::transmitted))]
 fn send_line(frame: Frame, attrs: &[u8]) -> Decision
-    requires { Fits (seen frame attrs) }
-    ensures { Decides (seen frame attrs.entry) result (λ v. transmitted v Area.WholeLine) }
+    requires { Fits (seen frame attrs.now) }
+    ensures { Decides (seen frame attrs.now) result (λ v. transmitted v Area.WholeLine) }
 {
     let y = frame.cursor.y;
     send(
@@ -57,8 +57,8 @@ fn send_line(frame: Frame, attrs: &[u8]) -> Decision
 // 21: every unprotected field, prefaced by the first one's place, where the cursor goes.
 #[tactic(auto, unfolding(rules::specs::Subcommand::transmitted))]
 fn send_unprotected(frame: Frame, attrs: &[u8]) -> Decision
-    requires { Fits (seen frame attrs) }
-    ensures { Decides (seen frame attrs.entry) result (λ v. transmitted v Area.Unprotected) }
+    requires { Fits (seen frame attrs.now) }
+    ensures { Decides (seen frame attrs.now) result (λ v. transmitted v Area.Unprotected) }
 {
     let next = sent_to(frame, attrs, Destination::FirstField);
     let place = next.cursor;
@@ -68,8 +68,8 @@ fn send_unprotected(frame: Frame, attrs: &[u8]) -> Decision
 // 27 (request (v)): every unprotected field with a marked cell. The marks are read when the reply is written, and are then cleared.
 #[tactic(auto, using(crate::proofs::ObeyLaws::lines_numbered))]
 pub(crate) fn send_modified(frame: Frame, attrs: &[u8]) -> Decision
-    requires { Fits (seen frame attrs) }
-    ensures { Decides (seen frame attrs.entry) result (λ v. transmitted_modified v) }
+    requires { Fits (seen frame attrs.now) }
+    ensures { Decides (seen frame attrs.now) result (λ v. transmitted_modified v) }
 {
     Decision {
         frame: sent_to(frame, attrs, Destination::FirstField),
@@ -83,9 +83,9 @@ pub(crate) fn send_modified(frame: Frame, attrs: &[u8]) -> Decision
 // 23, 26: the cursor's field from a cell on; on a guarded cell nothing follows the preface.
 #[tactic(auto, using(screen::proofs::FieldLaws::end_le, crate::proofs::DecideLaws::cursor_lt, crate::proofs::ObeyLaws::field_after))]
 fn send_field(frame: Frame, attrs: &[u8], from: usize) -> Decision
-    requires fits { Fits (seen frame attrs) }
+    requires fits { Fits (seen frame attrs.now) }
     requires from_bound { from ≤ cell_of frame.width frame.cursor }
-    ensures { Decides (seen frame attrs.entry) result (λ v. field_from v from) }
+    ensures { Decides (seen frame attrs.now) result (λ v. field_from v from) }
 {
     let guarded = cursor_guarded(frame, attrs);
     if guarded {
@@ -102,8 +102,8 @@ fn send_field(frame: Frame, attrs: &[u8], from: usize) -> Decision
 
 #[tactic(auto, using(screen::proofs::FieldLaws::start_le, crate::proofs::DecideLaws::recast, crate::proofs::ObeyLaws::cursor_in, crate::proofs::ObeyLaws::line_in), unfolding(rules::specs::Subcommand::transmitted))]
 pub(crate) fn transmit(frame: Frame, attrs: &[u8], area: Area) -> Decision
-    requires { Fits (seen frame attrs) }
-    ensures { Decides (seen frame attrs.entry) result (λ v. transmitted v area) }
+    requires { Fits (seen frame attrs.now) }
+    ensures { Decides (seen frame attrs.now) result (λ v. transmitted v area) }
 {
     let cell = cursor_cell(frame);
     let cursor = frame.cursor;

@@ -51,7 +51,7 @@ fn change_cells(edit: Edit, chars: &mut [u8], attrs: &[u8])
 // 37: a host character so many times.
 #[tactic(auto, using(crate::proofs::ApplyLaws::repeating_start, crate::proofs::ApplyLaws::repeating_more, crate::proofs::ApplyLaws::repeating_end))]
 fn repeat(frame: Frame, count: u8, byte: u8, chars: &mut [u8], attrs: &[u8]) -> Frame
-    ensures { Changes (edited (seen frame attrs.entry) (Edit.Repeat count byte))
+    ensures { Changes (edited (seen frame attrs.now) (Edit.Repeat count byte))
         chars.old attrs.now result chars.new }
 {
     let mut cursor = frame.cursor;
@@ -67,7 +67,7 @@ fn repeat(frame: Frame, count: u8, byte: u8, chars: &mut [u8], attrs: &[u8]) -> 
 // The frame afterwards: REPEAT moves the cursor as it writes.
 #[tactic(auto, using(crate::proofs::ApplyLaws::not_repeat, crate::proofs::ApplyLaws::changes_once))]
 pub(crate) fn change_chars(frame: Frame, edit: Edit, chars: &mut [u8], attrs: &[u8]) -> Frame
-    ensures { Changes (edited (seen frame attrs.entry) edit) chars.old attrs.now result chars.new }
+    ensures { Changes (edited (seen frame attrs.now) edit) chars.old attrs.now result chars.new }
 {
     let Edit::Repeat { count, byte } = edit else {
         change_cells(edit, chars, attrs);
@@ -139,7 +139,7 @@ fn say_any(
 
 #[tactic(auto, using(crate::proofs::ApplyLaws::changes_none))]
 fn change_any(frame: Frame, edit: Edit, chars: &mut [u8], attrs: &[u8]) -> Frame
-    ensures { Changes (edited (seen frame attrs.entry) edit) chars.old attrs.now result chars.new }
+    ensures { Changes (edited (seen frame attrs.now) edit) chars.old attrs.now result chars.new }
 {
     match edit {
         Edit::Nothing => frame,
@@ -159,10 +159,10 @@ pub(crate) fn apply(
     reply: &mut [u8],
     at: usize,
 ) -> Applied
-    requires { Sayable decision.frame.edition decision.say (lent chars attrs marks) reply.old at }
+    requires { Sayable decision.frame.edition decision.say (lent chars.old attrs.old marks.old) reply.old at }
     ensures { Applies (meant attrs.old decision)
-        (lent chars.entry attrs.entry marks.entry) reply.old at
-        result (lent chars.exit attrs.exit marks.exit) reply.new }
+        (lent chars.old attrs.old marks.old) reply.old at
+        result (lent chars.new attrs.new marks.new) reply.new }
 {
     let decided = decision.frame;
     let edition = decided.edition;

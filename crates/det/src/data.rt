@@ -47,7 +47,7 @@ pub(crate) fn obey_data(
     chars: &mut [u8],
     attrs: &[u8],
 ) -> Frame
-    ensures { Changes (data_effect (seen frame attrs.entry) lf cr byte)
+    ensures { Changes (data_effect (seen frame attrs.now) lf cr byte)
         chars.old attrs.now result chars.new }
 {
     let passed = is_passed(frame, lf, cr, byte);
@@ -74,7 +74,7 @@ pub(crate) fn take_bytes(
     chars: &mut [u8],
     attrs: &[u8],
 ) -> DataTurn
-    ensures { DataDone (seen frame attrs.entry) lf cr bytes.now chars.old result chars.new }
+    ensures { DataDone (seen frame attrs.now) lf cr bytes.now chars.old result chars.new }
 {
     let ends = ends_in_cr(cr, bytes);
     let joins = is_joining(frame, lf);

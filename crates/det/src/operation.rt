@@ -44,9 +44,9 @@ fn take_all(
     marks: &mut [u8],
     reply: &mut [u8],
 ) -> Answer
-    requires { Accepts (state session (lent chars attrs marks)) reply.old 0 }
-    ensures { outcome result (lent chars.exit attrs.exit marks.exit) reply.new
-        ≡ host_taken (state session (lent chars.entry attrs.entry marks.entry)) reply.old input.now }
+    requires { Accepts (state session (lent chars.old attrs.old marks.old)) reply.old 0 }
+    ensures { outcome result (lent chars.new attrs.new marks.new) reply.new
+        ≡ host_taken (state session (lent chars.old attrs.old marks.old)) reply.old input.now }
 {
     let room = reply_room(session.frame);
     let mut frame = session.frame;
@@ -124,7 +124,7 @@ fn refuse_key(
     marks: &[u8],
     reply: &[u8],
 ) -> Refusal
-    ensures { result ≡ key_refusal (state session (lent chars.entry attrs.entry marks.entry)) reply.now code }
+    ensures { result ≡ key_refusal (state session (lent chars.now attrs.now marks.now)) reply.now code }
 {
     let why = refuse(session, chars, attrs, marks, reply);
     let Refusal::Taken = why else {
@@ -156,10 +156,10 @@ fn take_meaning(
     marks: &mut [u8],
     reply: &mut [u8],
 ) -> Answer
-    requires code_value { key_refusal (state session (lent chars attrs marks)) reply.old code ≡ Refusal.Taken }
+    requires code_value { key_refusal (state session (lent chars.old attrs.now marks.old)) reply.old code ≡ Refusal.Taken }
     requires code_value_2 { takes_key session.frame code ≡ false }
-    ensures { outcome result (lent chars.exit attrs.entry marks.exit) reply.new
-        ≡ key_taken (state session (lent chars.entry attrs.entry marks.entry)) reply.old code }
+    ensures { outcome result (lent chars.new attrs.now marks.new) reply.new
+        ≡ key_taken (state session (lent chars.old attrs.now marks.old)) reply.old code }
 {
     let meaning = key_of(code);
     let decision = press(session.frame, attrs, meaning);
@@ -188,10 +188,10 @@ fn take_line(
     marks: &[u8],
     reply: &mut [u8],
 ) -> Answer
-    requires code_value { key_refusal (state session (lent chars attrs marks)) reply.old code ≡ Refusal.Taken }
+    requires code_value { key_refusal (state session (lent chars.old attrs.now marks.now)) reply.old code ≡ Refusal.Taken }
     requires code_value_2 { takes_key session.frame code ≡ true }
-    ensures { outcome result (lent chars.exit attrs.entry marks.entry) reply.new
-        ≡ key_taken (state session (lent chars.entry attrs.entry marks.entry)) reply.old code }
+    ensures { outcome result (lent chars.new attrs.now marks.now) reply.new
+        ≡ key_taken (state session (lent chars.old attrs.now marks.now)) reply.old code }
 {
     let pad = session.pad;
     let reader = session.reader;
@@ -218,9 +218,9 @@ fn take_key(
     marks: &mut [u8],
     reply: &mut [u8],
 ) -> Answer
-    requires { key_refusal (state session (lent chars attrs marks)) reply.old code ≡ Refusal.Taken }
-    ensures { outcome result (lent chars.exit attrs.entry marks.exit) reply.new
-        ≡ key_taken (state session (lent chars.entry attrs.entry marks.entry)) reply.old code }
+    requires { key_refusal (state session (lent chars.old attrs.now marks.old)) reply.old code ≡ Refusal.Taken }
+    ensures { outcome result (lent chars.new attrs.now marks.new) reply.new
+        ≡ key_taken (state session (lent chars.old attrs.now marks.old)) reply.old code }
 {
     let takes = takes_key(session.frame, code);
     if takes {
@@ -239,8 +239,8 @@ pub fn host_bytes(
     marks: &mut [u8],
     reply: &mut [u8],
 ) -> Answer
-    ensures { outcome result (lent chars.exit attrs.exit marks.exit) reply.new
-        ≡ host_bytes (state session (lent chars.entry attrs.entry marks.entry)) reply.old input.now }
+    ensures { outcome result (lent chars.new attrs.new marks.new) reply.new
+        ≡ host_bytes (state session (lent chars.old attrs.old marks.old)) reply.old input.now }
 {
     let why = refuse(session, chars, attrs, marks, reply);
     let Refusal::Taken = why else {
@@ -259,8 +259,8 @@ pub fn key(
     marks: &mut [u8],
     reply: &mut [u8],
 ) -> Answer
-    ensures { outcome result (lent chars.exit attrs.entry marks.exit) reply.new
-        ≡ one_key (state session (lent chars.entry attrs.entry marks.entry)) reply.old code }
+    ensures { outcome result (lent chars.new attrs.now marks.new) reply.new
+        ≡ one_key (state session (lent chars.old attrs.now marks.old)) reply.old code }
 {
     let why = refuse_key(session, code, chars, attrs, marks, reply);
     let Refusal::Taken = why else {

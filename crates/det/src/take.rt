@@ -35,8 +35,8 @@ pub struct Turn {
 // What is done on an event other than data that ends no message of option 30.
 #[tactic(auto, using(decide::proofs::DecideLaws::decides, decide::proofs::DecideLaws::recast, decide::proofs::DecideLaws::fits_rule, crate::proofs::TakeLaws::idle), unfolding(crate::specs::Inner::Data::told_effect))]
 fn decide_event(frame: Frame, attrs: &[u8], held: Held, event: Event) -> Decision
-    requires { Fits (seen frame attrs) }
-    ensures { Decides (seen frame attrs.entry) result (λ v. told_effect v held event) }
+    requires { Fits (seen frame attrs.now) }
+    ensures { Decides (seen frame attrs.now) result (λ v. told_effect v held event) }
 {
     match event {
         Event::Negotiation { verb, option } => negotiate(frame, verb, option),
@@ -65,10 +65,10 @@ fn happen(
     reply: &mut [u8],
     at: usize,
 ) -> Applied
-    requires { Answerable (det_effect (seen frame attrs) lf held cr event) frame (lent chars attrs marks) reply.old at }
-    ensures { Applies (det_effect (seen frame attrs.entry) lf held cr event)
-        (lent chars.entry attrs.entry marks.entry) reply.old at
-        result (lent chars.exit attrs.exit marks.exit) reply.new }
+    requires { Answerable (det_effect (seen frame attrs.old) lf held cr event) frame (lent chars.old attrs.old marks.old) reply.old at }
+    ensures { Applies (det_effect (seen frame attrs.old) lf held cr event)
+        (lent chars.old attrs.old marks.old) reply.old at
+        result (lent chars.new attrs.new marks.new) reply.new }
 {
     match event {
         Event::Data(byte) => {
@@ -164,12 +164,12 @@ fn take_told(
     reply: &mut [u8],
     at: usize,
 ) -> Turn
-    requires accepts_turn { AcceptsTurn frame reader lf (lent chars attrs marks) reply.old at }
+    requires accepts_turn { AcceptsTurn frame reader lf (lent chars.old attrs.old marks.old) reply.old at }
     requires phase_value { in_message reader.phase ≡ false }
     requires from_in_bounds { from < length input.now }
     ensures from_lt_end { from < result.end }
-    ensures turns { Turns frame reader lf (lent chars.entry attrs.entry marks.entry) input.now from
-        reply.old at result (lent chars.exit attrs.exit marks.exit) reply.new }
+    ensures turns { Turns frame reader lf (lent chars.old attrs.old marks.old) input.now from
+        reply.old at result (lent chars.new attrs.new marks.new) reply.new }
 {
     let told = told_at(reader, input, from);
     let held = told.held;
@@ -302,12 +302,12 @@ pub(crate) fn take_turn(
     reply: &mut [u8],
     at: usize,
 ) -> Turn
-    requires accepts_turn { AcceptsTurn frame reader lf (lent chars attrs marks) reply.old at }
+    requires accepts_turn { AcceptsTurn frame reader lf (lent chars.old attrs.old marks.old) reply.old at }
     requires phase_value { in_message reader.phase ≡ false }
     requires from_in_bounds { from < length input.now }
     ensures from_lt_end { from < result.end }
-    ensures turns { Turns frame reader lf (lent chars.entry attrs.entry marks.entry) input.now from
-        reply.old at result (lent chars.exit attrs.exit marks.exit) reply.new }
+    ensures turns { Turns frame reader lf (lent chars.old attrs.old marks.old) input.now from
+        reply.old at result (lent chars.new attrs.new marks.new) reply.new }
 {
     let stretch = take_stretch(frame, reader, lf, input, from, chars, attrs, at);
     let next = stretch.end;

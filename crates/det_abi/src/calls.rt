@@ -66,8 +66,8 @@ pub extern "C" fn det_open(
     marks: &mut [u8],
     session: &mut [u8],
 ) -> u8
-    ensures* { λ r. ⌜ result r session.new 0 0 (lent chars.exit attrs.exit marks.exit) []
-        ≡ open_call width height edition session.old (lent chars.entry attrs.entry marks.entry) ⌝ }
+    ensures* { λ r. ⌜ result r session.new 0 0 (lent chars.new attrs.new marks.new) []
+        ≡ open_call width height edition session.old (lent chars.old attrs.old marks.old) ⌝ }
 {
     if session.len() != SESSION_LENGTH {
         return NO_SESSION;
@@ -90,8 +90,8 @@ pub extern "C" fn det_host(
     written: &mut usize,
 ) -> u8
     ensures* { λ r. ⌜ result r session.new taken.new written.new
-        (lent chars.exit attrs.exit marks.exit) reply.new
-        ≡ host_call session.old input.now (lent chars.entry attrs.entry marks.entry) reply.old ⌝ }
+        (lent chars.new attrs.new marks.new) reply.new
+        ≡ host_call session.old input.now (lent chars.old attrs.old marks.old) reply.old ⌝ }
 {
     let known = is_session(session);
     if !known {
@@ -115,8 +115,8 @@ pub extern "C" fn det_key(
     written: &mut usize,
 ) -> u8
     ensures* { λ r. ⌜ result r session.new taken.new written.new
-        (lent chars.exit attrs.entry marks.exit) reply.new
-        ≡ key_call session.old code (lent chars.entry attrs.entry marks.entry) reply.old ⌝ }
+        (lent chars.new attrs.now marks.new) reply.new
+        ≡ key_call session.old code (lent chars.old attrs.now marks.old) reply.old ⌝ }
 {
     let known = is_session(session);
     if !known {

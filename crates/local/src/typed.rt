@@ -49,7 +49,7 @@ pub fn refuse_line(pad: Pad, code: u8) -> Refusal
 // An echo, written as host text: the frame after it.
 #[tactic(auto, using(text::proofs::TextLaws::texted_none, text::proofs::TextLaws::texted_more, text::proofs::TextLaws::texted_all))]
 fn write_echo(frame: Frame, echo: Echo, line: EditLine, chars: &mut [u8], attrs: &[u8]) -> Frame
-    ensures { Changes (host_text (seen frame attrs.entry) (bytes_of echo (text_of line)))
+    ensures { Changes (host_text (seen frame attrs.now) (bytes_of echo (text_of line)))
         chars.old attrs.now result chars.new }
 {
     let count = echo_length(echo, line);
@@ -67,7 +67,7 @@ fn write_echo(frame: Frame, echo: Echo, line: EditLine, chars: &mut [u8], attrs:
 // What is echoed at a key, written as host text: the frame after it.
 #[tactic(auto, unfolding(typing::specs::Echo::echo_of))]
 pub fn echo_key(frame: Frame, pad: Pad, code: u8, chars: &mut [u8], attrs: &[u8]) -> Frame
-    ensures { Changes (host_text (seen frame attrs.entry) (echoed_at pad code))
+    ensures { Changes (host_text (seen frame attrs.now) (echoed_at pad code))
         chars.old attrs.now result chars.new }
 {
     let values = pad.values;

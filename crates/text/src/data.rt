@@ -31,7 +31,7 @@ pub fn set_cell(chars: &mut [u8], cell: usize, byte: u8)
 // One character from the host: the cursor after it.
 #[tactic(auto, using(crate::proofs::WriteLaws::unwritten, crate::proofs::WriteLaws::written))]
 pub fn put_character(frame: Frame, byte: u8, chars: &mut [u8], attrs: &[u8]) -> Place
-    ensures { Changes (host_character (seen frame attrs.entry) byte)
+    ensures { Changes (host_character (seen frame attrs.now) byte)
         chars.old attrs.now (placed frame result) chars.new }
 {
     let writing = write_host(frame, attrs, byte);
@@ -46,7 +46,7 @@ pub fn put_character(frame: Frame, byte: u8, chars: &mut [u8], attrs: &[u8]) -> 
 // One byte of host data: the cursor after it.
 #[tactic(auto, using(crate::proofs::WriteLaws::unprinted), unfolding(rules::specs::Telnet::host_data))]
 pub fn take_data(frame: Frame, byte: u8, chars: &mut [u8], attrs: &[u8]) -> Place
-    ensures { Changes (host_data (seen frame attrs.entry) byte)
+    ensures { Changes (host_data (seen frame attrs.now) byte)
         chars.old attrs.now (placed frame result) chars.new }
 {
     let text = is_printable(byte);
@@ -129,7 +129,7 @@ pub fn host_text(
     chars: &mut [u8],
     attrs: &[u8],
 ) -> Frame
-    ensures { Changes (host_text (seen frame attrs.entry) (obeyed_bytes joins cr bytes.now))
+    ensures { Changes (host_text (seen frame attrs.now) (obeyed_bytes joins cr bytes.now))
         chars.old attrs.now result chars.new }
 {
     let mut cursor = frame.cursor;

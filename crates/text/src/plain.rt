@@ -208,7 +208,7 @@ fn at_last_cell(frame: Frame) -> bool
 #[tactic(auto, using(crate::proofs::PlainLaws::stays_guarded, crate::proofs::PlainLaws::stays_last))]
 pub(crate) fn last_counts(frame: Frame, attrs: &[u8], at: usize, end: usize) -> usize
     requires { at < end }
-    ensures { LastCounts (seen frame attrs.entry) at end result }
+    ensures { LastCounts (seen frame attrs.now) at end result }
 {
     let guarded = cursor_guarded(frame, attrs);
     if guarded {

@@ -21,8 +21,8 @@ pub fn none() -> Held
 // One byte more where fewer than six are held: the count after it.
 #[tactic(auto, unfolding(rules::specs::Telnet::holding))]
 pub fn hold_in(bytes: &mut [u8; 6], count: u8, byte: u8) -> u8
-    ensures { record { bytes = bytes.exit.now; count = result }
-        ≡ holding (record { bytes = bytes.entry.now; count = count }) byte }
+    ensures { record { bytes = bytes.new; count = result }
+        ≡ holding (record { bytes = bytes.old; count = count }) byte }
 {
     if count < 6 {
         bytes[count as usize] = byte;

@@ -2,7 +2,6 @@
 use Rattle.layout.proofs.Kit.{◌≡◌, refl, sym, subst, ◌∙◌, Bool, true, false, ◌&&◌, ◌||◌, List, ◌∷◌, ℕ, zero, suc, arith}
 use Rattle.layout.proofs.Kit.{eqb, leb, leb-true, eqb-true, eqb-false, le-leb, eq-eqb, ne_eqb, true_or_false, and_left, and_right}
 use Rattle.layout.proofs.Kit.{length, tabulate, tabulated}
-use Rattle.telnet.specs.declared.Verb.{Verb}
 use Rattle.telnet.specs.declared.Verb.TheVariants.{Will, Wont, Do, Dont}
 use Rattle.telnet.specs.declared.Phase.{Phase}
 use Rattle.telnet.specs.declared.Phase.TheVariants.{Rest, Iac, Negotiating, Opening, OpeningIac, Inside, InsideIac}

@@ -3,7 +3,6 @@ ghost use Rattle.std.specs.Prelude.{◌≡◌, ◌+◌, ◌≤◌, length};
 ghost use Rattle.std.proofs.lemmas.List.Edits.{sets};
 
 // Copies the part into the whole, from `at` on.
-#[tactic(auto, using(crate::proofs::CopyLaws::pasted_all))]
 pub(crate) fn copy(part: &[u8], whole: &mut [u8], at: usize)
     requires { at + length part.now ≤ length whole.old }
     ensures { whole.new ≡ sets whole.old at part.now }

@@ -50,7 +50,7 @@ pub fn decode(bytes: &[u8]) -> Session
 }
 
 // Writes the session's bytes over those that are there. A place of another length is left as it is.
-#[tactic(auto, using(crate::proofs::LayoutLaws::stored_elsewhere, crate::proofs::CopyLaws::session_stored))]
+#[tactic(auto, using(crate::proofs::LayoutLaws::stored_elsewhere))]
 pub fn encode(session: Session, bytes: &mut [u8])
     ensures { bytes.new ≡ stored session bytes.old }
 {

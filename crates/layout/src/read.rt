@@ -12,7 +12,6 @@ use rules::{Frame, Held, Maps, Pad, Reader, Session};
 use screen::cell::{Column, Line, Place};
 
 // The six held bytes.
-#[tactic(auto, using(crate::proofs::CopyLaws::part_read))]
 fn held_in(bytes: &[u8]) -> [u8; 6]
     requires { session_length ≤ length bytes.now }
     ensures { result ≡ bytes_from bytes.now 11 6 }
@@ -23,7 +22,6 @@ fn held_in(bytes: &[u8]) -> [u8; 6]
 }
 
 // The 28 values from a place on.
-#[tactic(auto, using(crate::proofs::CopyLaws::part_read))]
 fn values_in(bytes: &[u8], from: usize) -> [u8; 28]
     requires { from + 28 ≤ length bytes.now }
     ensures { result ≡ bytes_from bytes.now from 28 }
@@ -34,7 +32,6 @@ fn values_in(bytes: &[u8], from: usize) -> [u8; 28]
 }
 
 // The edit line's bytes.
-#[tactic(auto, using(crate::proofs::CopyLaws::part_read))]
 fn line_in(bytes: &[u8]) -> [u8; EditLine::CAPACITY]
     requires { session_length ≤ length bytes.now }
     ensures { result ≡ bytes_from bytes.now 47 128 }
@@ -130,7 +127,6 @@ pub(crate) fn session_in(bytes: &[u8]) -> Session
 }
 
 // The session of bytes that may be too short for one: zeros stand for what is missing.
-#[tactic(auto, using(crate::proofs::CopyLaws::all_read, crate::proofs::CopyLaws::padded_same))]
 pub(crate) fn session_in_short(bytes: &[u8]) -> Session
     requires { length bytes.now ≤ session_length }
     ensures { result ≡ decoded bytes.now }

@@ -1,13 +1,9 @@
 -- Laws of writing a character: by its fate.
 use mathlib.Core.Path.{◌≡◌, refl, ◌∙◌}
 use mathlib.Core.Bool.{Bool, true, false}
-use mathlib.Core.Logic.{⊎_elim}
 use mathlib.Core.List.{[], ◌∷◌}
 use Prim.Native.Nat.{ℕ}
-use native.Mathlib.Omega.{arith}
 use borrow.Author.Tests.{lt-ltb, eq-eqb}
-use types.Run.{OneOf}
-use denote.Enum.Declared.{tag_of}
 use Rattle.words.specs.Words.{if◌then◌else◌}
 use Rattle.screen.specs.declared.cell.Place.{Place}
 use Rattle.screen.specs.Scans.{next_open_place}
@@ -27,7 +23,6 @@ use Rattle.rules.specs.Key.{pressed, key_tests, needs_of, class_allows}
 use Rattle.decide.specs.declared.text.Writer.TheVariants.{Host, Operator}
 use Rattle.decide.specs.declared.text.Fate.{Fate}
 use Rattle.decide.specs.declared.text.Fate.TheVariants.{Written, Dropped, RefusedByGuard, RefusedByClass}
-use Rattle.decide.specs.contracts.text.Fate.{the_type}
 use Rattle.decide.specs.declared.text.Writing.{Writing}
 use Rattle.decide.specs.declared.decision.Edit.TheVariants.{Nothing}
 use Rattle.decide.specs.declared.decision.Say.TheVariants.{Silent}
@@ -64,17 +59,17 @@ unfolding fate_of
 typed_is_written v c e = only_written (cursor_guarded v) (class_allows v (λ attr. takes attr c)) (refused_by_fate v c ∙ e)
 
 -- what the other arm of a match on Written knows
-pub not_written : (f : Fate) → OneOf (1 ∷ 2 ∷ 3 ∷ []) (tag_of the_type f)
+pub not_written : (f : Fate) → (f ≡ Written → ⊥)
     → (done none : Effect) → if_written f done none ≡ none
 unfolding if_written
-not_written Written h done none = absurd (⊎_elim (λ p. omega arith) (⊎_elim (λ p. omega arith) (λ p. omega arith)) h)
+not_written Written h done none = absurd (h refl)
 not_written Dropped h done none = refl
 not_written RefusedByGuard h done none = refl
 not_written RefusedByClass h done none = refl
 
-pub not_moved : (fate : Fate) → OneOf (1 ∷ 2 ∷ 3 ∷ []) (tag_of the_type fate) → (here next : Place) → here ≡ after_fate fate here next
+pub not_moved : (fate : Fate) → (fate ≡ Written → ⊥) → (here next : Place) → here ≡ after_fate fate here next
 unfolding after_fate
-not_moved Written h here next = absurd (⊎_elim (λ p. omega arith) (⊎_elim (λ p. omega arith) (λ p. omega arith)) h)
+not_moved Written h here next = absurd (h refl)
 not_moved Dropped h here next = refl
 not_moved RefusedByGuard h here next = refl
 not_moved RefusedByClass h here next = refl

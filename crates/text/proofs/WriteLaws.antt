@@ -4,15 +4,12 @@ use mathlib.Core.Bool.{false}
 use mathlib.Core.List.{List, [], ◌∷◌}
 use Prim.Native.Nat.{ℕ}
 use lib.ListN.{set}
-use types.Run.{OneOf}
-use denote.Enum.Declared.{tag_of}
 use Rattle.rules.specs.declared.Frame.{Frame}
 use Rattle.rules.specs.Session.{View, printable, placed, view, cursor_cell, with_cursor}
 use Rattle.rules.specs.Effect.{put, changed, changed_all, changing, quiet}
 use Rattle.rules.specs.Telnet.{host_character, host_data}
 use Rattle.decide.specs.declared.text.Writer.TheVariants.{Host}
 use Rattle.decide.specs.declared.text.Fate.TheVariants.{Written}
-use Rattle.decide.specs.contracts.text.Fate.{the_type}
 use Rattle.decide.specs.declared.text.Writing.{Writing}
 use Rattle.decide.specs.Writing.{place_after, after_fate, control_of, Writes}
 use Rattle.decide.specs.Inner.Writing.{if_written}
@@ -25,7 +22,7 @@ module _ {v : View} {c : ℕ} {w : Writing} (one : Writes v Host c w) where
   host_by_fate = by_fate v c ∙ rw (← one.fate)
 
   -- not written, it changes nothing
-  pub unwritten : {chars : List ℕ} → OneOf (1 ∷ 2 ∷ 3 ∷ []) (tag_of the_type w.fate)
+  pub unwritten : {chars : List ℕ} → (w.fate ≡ Written → ⊥)
       → Changes (host_character v c) chars v.attrs v.frame chars
   unfolding changed_all
   unwritten h = rw (host_by_fate, not_written w.fate h) (record { frame = refl; characters = refl })

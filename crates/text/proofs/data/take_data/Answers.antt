@@ -1,0 +1,6 @@
+use Rattle.std.proofs.Common.{sym, ◌∙◌}
+use Rattle.text.proofs.WriteLaws.{unprinted}
+use Rattle.text.proofs.data.take_data.Goals as goal
+
+pub returns : goal.returns
+returns c = unprinted _ _ (sym c.is_printable-text.ensures ∙ c.if-text.false) (c.control.ensures _)

@@ -10,7 +10,6 @@ use borrow.Author.Tests.{le-leb, leb-true}
 use lib.Dec.{leb}
 use lib.ListN.{length, drop, get_or, drop_of_length-le}
 use lib.Seq.{sets, sets-eq, length-sets, take_all, drop-cons}
-use Rattle.words.specs.Words.{if◌then◌else◌}
 use Rattle.screen.specs.Fields.{opens_at, first_from, field_end}
 use Rattle.edit.specs.Edits.{lies, can_copy, text_of, Copied}
 use Rattle.words.proofs.Laws.{either, true_or_false}

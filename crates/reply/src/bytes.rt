@@ -6,7 +6,6 @@ ghost use Rattle.reply.specs.Pieces.{doubled_pieces};
 use edit::text::copy_text;
 use telnet::code::IAC;
 
-#[tactic(auto, using(crate::proofs::WriteLaws::copied_whole))]
 pub(crate) fn put_bytes(reply: &mut [u8], at: usize, bytes: &[u8]) -> usize
     ensures { Wrote reply.old at (bytes.now ∷ []) reply.new result }
 {
@@ -25,7 +24,7 @@ pub(crate) fn put_doubled(reply: &mut [u8], at: usize, byte: u8) -> usize
 }
 
 // The payload of a subnegotiation.
-#[tactic(auto, using(crate::proofs::WriteLaws::writing_start, crate::proofs::WriteLaws::writing_more, crate::proofs::WriteLaws::writing_length, crate::proofs::WriteLaws::writing_all, crate::proofs::WriteLaws::doubled_at, crate::proofs::WriteLaws::doubled_end))]
+#[tactic(auto, using(crate::proofs::WriteLaws::writing_start, crate::proofs::WriteLaws::writing_more, crate::proofs::WriteLaws::writing_length, crate::proofs::WriteLaws::doubled_at))]
 pub(crate) fn put_payload(reply: &mut [u8], at: usize, payload: &[u8]) -> usize
     ensures { Wrote reply.old at (doubled_pieces payload.now) reply.new result }
 {

@@ -14,7 +14,7 @@ use screen::scan::{Target, first};
 use telnet::code::{IAC, SB, SE};
 
 // A separator before a field, not before the first, by its code, which is not IAC. Where all of it fits, it goes by one copy.
-#[tactic(auto, using(crate::proofs::WriteLaws::wrote_none, crate::proofs::ReplyLaws::joined, crate::proofs::ReplyLaws::wrote_as), unfolding(crate::specs::Pieces::doubled_pieces))]
+#[tactic(auto, using(crate::proofs::WriteLaws::wrote_none))]
 fn put_separator(reply: &mut [u8], at: usize, code: u8, first: bool) -> usize
     requires { eqb code 255 ≡ false }
     ensures { Wrote reply.old at (separator_pieces code first) reply.new result }
@@ -31,7 +31,6 @@ fn put_separator(reply: &mut [u8], at: usize, code: u8, first: bool) -> usize
 }
 
 // The text of a field, behind a separator.
-#[tactic(auto, using(crate::proofs::WriteLaws::wrote_then, crate::proofs::WriteLaws::copied_piece))]
 fn put_field(
     chars: &[u8],
     reply: &mut [u8],
@@ -58,7 +57,7 @@ pub(crate) fn field_from(attrs: &[u8], cell: usize) -> usize
 }
 
 // Every unprotected field, a separator between each two.
-#[tactic(auto, using(crate::proofs::WriteLaws::writing_length, crate::proofs::WriteLaws::fields_start, crate::proofs::WriteLaws::fields_all, crate::proofs::WriteLaws::to_next, crate::proofs::WriteLaws::to_further, crate::proofs::WriteLaws::to_more, crate::proofs::SingleLaws::to_after))]
+#[tactic(auto, using(crate::proofs::WriteLaws::writing_length, crate::proofs::WriteLaws::to_further))]
 pub(crate) fn put_fields(chars: &[u8], attrs: &[u8], reply: &mut [u8], at: usize, code: u8) -> usize
     requires { eqb code 255 ≡ false }
     ensures { Wrote reply.old at

@@ -30,7 +30,6 @@ pub(crate) fn put_negotiation(reply: &mut [u8], at: usize, verb: Verb, option: u
 }
 
 // IAC SB option payload IAC SE
-#[tactic(auto, using(crate::proofs::WriteLaws::wrote_then))]
 pub(crate) fn put_message(reply: &mut [u8], at: usize, option: u8, payload: &[u8]) -> usize
     ensures { Wrote reply.old at (message_pieces option payload.now) reply.new result }
 {

@@ -32,7 +32,7 @@ fn put_marked(
 }
 
 // Every such field: no separators, and nothing at all where there is none.
-#[tactic(auto, using(crate::proofs::WriteLaws::writing_length, crate::proofs::WriteLaws::to_further, crate::proofs::ModifiedLaws::modifying_start, crate::proofs::ModifiedLaws::modifying_more, crate::proofs::ModifiedLaws::modifying_all))]
+#[tactic(auto, using(crate::proofs::WriteLaws::writing_length, crate::proofs::WriteLaws::to_further))]
 pub(crate) fn put_modified(
     chars: &[u8],
     attrs: &[u8],

@@ -81,7 +81,6 @@ pub(crate) fn are_singles(
 }
 
 // A separator and one character.
-#[tactic(auto, using(crate::proofs::ReplyLaws::joined, crate::proofs::ReplyLaws::wrote_as, crate::proofs::ReplyLaws::wrote_emitted, crate::proofs::SingleLaws::one_text), unfolding(crate::specs::Pieces::doubled_pieces))]
 fn put_single(chars: &[u8], reply: &mut [u8], cell: usize, at: usize, code: u8) -> usize
     requires cell_in_bounds { (cell < length chars.now) × (at + 7 ≤ length reply.old) }
     requires code_value { eqb code 255 ≡ false }
@@ -92,7 +91,7 @@ fn put_single(chars: &[u8], reply: &mut [u8], cell: usize, at: usize, code: u8) 
 }
 
 // The thirty-two fields from the cell on.
-#[tactic(auto, using(crate::proofs::SingleLaws::ones_start, crate::proofs::SingleLaws::ones_length, crate::proofs::SingleLaws::ones_more, crate::proofs::SingleLaws::ones_all))]
+#[tactic(auto, using(crate::proofs::SingleLaws::ones_start, crate::proofs::SingleLaws::ones_length, crate::proofs::SingleLaws::ones_more))]
 pub(crate) fn put_singles(chars: &[u8], reply: &mut [u8], cell: usize, at: usize, code: u8) -> usize
     requires cell_in_bounds { (cell + 32 ≤ length chars.now) × (at + 224 ≤ length reply.old) }
     requires code_value { eqb code 255 ≡ false }

@@ -21,7 +21,6 @@ pub(crate) fn put_preface(reply: &mut [u8], at: usize, code: u8, place: Place) -
 }
 
 // A range of cells.
-#[tactic(auto, using(crate::proofs::WriteLaws::wrote_then, crate::proofs::WriteLaws::copied_piece))]
 pub(crate) fn put_text(
     chars: &[u8],
     reply: &mut [u8],
@@ -39,7 +38,7 @@ pub(crate) fn put_text(
 }
 
 // 21: the unprotected fields.
-#[tactic(auto, using(rules::proofs::Editions::not_iac, crate::proofs::WriteLaws::wrote_then))]
+#[tactic(auto, using(rules::proofs::Editions::not_iac))]
 pub(crate) fn put_form(
     edition: Edition,
     chars: &[u8],

@@ -2,4 +2,3 @@ pub mod Cases
 pub mod CountLaws
 pub mod RecordLaws
 pub mod ScanLaws
-mod Walk

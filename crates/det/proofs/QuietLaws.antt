@@ -26,7 +26,7 @@ use Rattle.rules.specs.declared.Frame.{Frame}
 use Rattle.rules.specs.declared.Reader.{Reader}
 use Rattle.rules.specs.declared.Pad.{Pad}
 use Rattle.rules.specs.Session.{none_held, Screen, State, View, line_takes_keys, session, screen, state, view}
-use Rattle.rules.specs.Effect.{Effect, changed_all, marks_after, spelled_all, quiet}
+use Rattle.rules.specs.Effect.{Effect, changed_all, marks_after, spelled_all}
 use Rattle.rules.specs.Telnet.{holding, held_after, cr_after, host_data, host_text}
 use Rattle.rules.specs.Pad.{is_x3, with_message, pad_after, joins, passes}
 use Rattle.rules.specs.Operation.{Ran, happening, host_byte, applied, running}

@@ -2,7 +2,6 @@
 use Rattle.std.specs.Prelude.{◌≡◌, Bool, false, List, [], ℕ, ◌+◌, ◌-◌, ◌≤◌, ◌<◌, length, get_or, drop}
 use Rattle.telnet.specs.declared.Phase.{Phase}
 use Rattle.telnet.specs.declared.Phase.TheVariants.{Rest, Iac, Negotiating, Opening, OpeningIac, Inside, InsideIac}
-use Rattle.telnet.specs.declared.Event.{Event}
 use Rattle.telnet.specs.declared.Event.TheVariants.{Nothing, End}
 use Rattle.telnet.specs.Reader.{tells, read_of}
 use Rattle.telnet.specs.Stream.{part}

@@ -1,0 +1,67 @@
+use Rattle.std.proofs.Common.{◌≡◌, refl, sym, ap, ◌∙◌, arith, rules}
+use Rattle.rules.proofs.Running.{taken_end, taken_full}
+use Rattle.pad.specs.Host.{prints_lf}
+use Rattle.rules.specs.declared.Pad.{Pad}
+use Rattle.rules.specs.Pad.{pad_after, with_message}
+use Rattle.local.proofs.ToldLaws.{other_clears}
+use Rattle.det.proofs.HostLaws.{accepts_turn, taking_none, taking_then, taking_room, taking_accepts, taking_done}
+use Rattle.det.proofs.MessageLaws.{message_taking}
+use Rattle.det.proofs.operation.take_all.Goals as goal
+use Rattle.det.proofs.operation.take_all.Goals.{then-other, else-other}
+
+pub loop-taken-init : goal.loop-taken-init
+loop-taken-init c = (taking_none (omega arith) (omega arith), refl, refl, refl, refl, c.prints_lf-lf.ensures)
+
+-- a byte in a half-read message
+pub loop-taken-preserved-then-inside : goal.loop-taken-preserved-then-inside
+loop-taken-preserved-then-inside c =
+    let i = c.loop-taken.invariant in
+    let a = taking_accepts i.0 c.requires (omega (arith, c.reply_room-room.ensures, c.if-reply-written.false)) in (
+      taking_then i.0
+          (message_taking _ _ _ _ _ _ a (sym c.in_message-inside.ensures ∙ c.if-inside.true) c.loop-taken-test.true
+          c.take_byte-one.ensures),
+      i.1,
+      i.2,
+      i.3,
+      search rules,
+      c.prints_lf-lf-then-inside.ensures,
+    )
+
+pub take_turn-turn-requires-clause-accepts_turn : goal.take_turn-turn-requires-clause-accepts_turn
+take_turn-turn-requires-clause-accepts_turn c =
+    let i = c.loop-taken.invariant in
+    accepts_turn _ _ _ c.loop-taken.lf _ c.loop-taken.reply c.loop-taken.written
+    (taking_accepts i.0 c.requires (omega (arith, c.reply_room-room.ensures, c.if-reply-written.false)))
+
+-- a stretch, and what is told after it
+pub loop-taken-preserved : goal.loop-taken-preserved
+loop-taken-preserved c =
+    let i = c.loop-taken.invariant in
+    let a = taking_accepts i.0 c.requires (omega (arith, c.reply_room-room.ensures, c.if-reply-written.false)) in
+    let told : c.if-other.pad ≡ pad_after c.loop-taken.frame c.loop-taken.pad c.take_turn-turn.result.event =
+    elim c.if-other.branch [
+      | then-other w ↦
+          w.pad-is ∙ ap (with_message c.loop-taken.pad) w.idle-pad.ensures
+          ∙ sym (other_clears _ _ _ (sym c.ends_other-other.ensures ∙ w.if-other.true))
+      | else-other w ↦ w.pad-is ∙ w.pad_told-pad.ensures
+    ] in
+    let prints : c.if-other.lf ≡ prints_lf c.if-other.pad.values =
+    elim c.if-other.branch [
+      | then-other w ↦ w.lf-is ∙ i.5 ∙ ap (λ (p : Pad). prints_lf p.values) (sym w.pad-is)
+      | else-other w ↦ w.lf-is ∙ w.prints_lf-lf-else-other.ensures ∙ ap (λ (p : Pad). prints_lf p.values) (sym w.pad-is)
+    ] in (
+      taking_then i.0 (rw (← told) at (c.take_turn-turn.ensures.turns _ (sym i.5) a)),
+      search rules,
+      search rules,
+      search rules,
+      search rules,
+      prints,
+    )
+
+pub returns-after-loop-taken : goal.returns-after-loop-taken
+returns-after-loop-taken c = taking_done c.loop-taken.invariant.0 (taken_end _ _ _ _ c.loop-taken-test.false)
+
+pub returns-then-reply-written : goal.returns-then-reply-written
+returns-then-reply-written c =
+    let same = taking_room c.loop-taken.invariant.0 c.requires in
+    taking_done c.loop-taken.invariant.0 (taken_full _ _ _ (omega (arith, same, c.reply_room-room.ensures, c.if-reply-written.true)))

@@ -1,0 +1,7 @@
+use Rattle.det.proofs.KeyLaws.{line_settled}
+use Rattle.det.proofs.operation.take_line.Goals as goal
+
+pub returns : goal.returns
+returns c =
+    line_settled _ _ _ c.requires.code_value c.requires.code_value_2 c.send_line-written.ensures c.echo_key-frame.ensures
+    c.type_key.ensures

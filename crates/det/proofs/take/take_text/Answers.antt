@@ -1,0 +1,9 @@
+use Rattle.std.proofs.Common.{refl}
+use Rattle.det.proofs.QuietLaws.{text_turn, joins_by}
+use Rattle.det.proofs.take.take_text.Goals as goal
+
+pub returns : goal.returns
+returns c marks p prints =
+    let done = c.take_bytes-done.ensures in
+    text_turn c.requires.from_in_bounds _ c.data_at-stretch.ensures _ c.requires.phase_value refl _ (joins_by c.args.frame p prints)
+    done.done done.ends

@@ -21,7 +21,7 @@ use Rattle.rules.specs.Pad.{takes_key}
 use Rattle.rules.specs.Operation.{Outcome, outcome, unless, host_refusal, host_bytes, key_refusal, one_key, opened}
 use Rattle.screen.proofs.TestLaws.{failing, passing}
 use Rattle.layout.specs.Layout.{session_length, is_session, encoded, decoded}
-use Rattle.det_abi.specs.Calls.{Result, result, told, no_session, provided, open_call, host_call, key_call, key_byte, Gives}
+use Rattle.det_abi.specs.Calls.{Result, result_of, told, no_session, provided, open_call, host_call, key_call, key_byte, Gives}
 use Rattle.layout.proofs.LayoutLaws.{encoded_decoded}
 
 -- ---- keys that are no byte
@@ -64,18 +64,18 @@ key_capped s reply k =
 
 -- an outcome whose answer is given
 returns_told : {o : Outcome} {a : Answer} {number : ℕ} {session : List ℕ} {taken written : ℕ} {b : Screen} {reply : List ℕ}
-    → outcome a b reply ≡ o → Gives a number session taken written → result number session taken written b reply ≡ told o
+    → outcome a b reply ≡ o → Gives a number session taken written → result_of number session taken written b reply ≡ told o
 returns_told {b = b} {reply = reply} h g =
-    (λ i. result (g.number_is i) (g.session_is i) (g.taken_is i) (g.written_is i) b reply) ∙ ap (λ (o : Outcome). told o) h
+    (λ i. result_of (g.number_is i) (g.session_is i) (g.taken_is i) (g.written_is i) b reply) ∙ ap (λ (o : Outcome). told o) h
 
 -- bytes that are no session
 returns_none : {number taken written : ℕ} {session : List ℕ} {b : Screen} {reply : List ℕ} → (number ≡ 255) × (taken ≡ 0) × (written ≡ 0)
-    → result number session taken written b reply ≡ no_session session b reply
+    → result_of number session taken written b reply ≡ no_session session b reply
 returns_none h = rw (h.0, h.1, h.2)
 
 -- open: no place for a session, or its answer told
 module _ (m n named : ℕ) (session : List ℕ) (b : Screen) where
-  pub open_none : (length session ≡ session_length → ⊥) → result 255 session 0 0 b [] ≡ open_call m n named session b
+  pub open_none : (length session ≡ session_length → ⊥) → result_of 255 session 0 0 b [] ≡ open_call m n named session b
   unfolding open_call provided
   open_none f = rw (ne_eqb (length session) session_length f)
 
@@ -85,7 +85,7 @@ module _ (m n named : ℕ) (session : List ℕ) (b : Screen) where
 
   pub open_done : {a : Answer} {number : ℕ} {session' : List ℕ} {b' : Screen} → length session ≡ session_length
       → outcome a b' [] ≡ opened m n named b → number ≡ number_of a.refusal → session' ≡ encoded a.session
-      → result number session' 0 0 b' [] ≡ open_call m n named session b
+      → result_of number session' 0 0 b' [] ≡ open_call m n named session b
   unfolding open_call provided
   open_done {a} t s p q =
       let same : a ≡ (opened m n named b).answer = ap (λ (o : Outcome). o.answer) s in
@@ -99,30 +99,30 @@ module _ (m n named : ℕ) (session : List ℕ) (b : Screen) where
 -- host bytes and a key: no session, or the answer given
 module _ (session : List ℕ) (b : Screen) (reply : List ℕ) {found : Bool} (e : found ≡ is_session session) where
   module _ {number taken written : ℕ} (f : not found ≡ true) (h : (number ≡ 255) × (taken ≡ 0) × (written ≡ 0)) where
-    pub host_none : (input : List ℕ) → result number session taken written b reply ≡ host_call session input b reply
+    pub host_none : (input : List ℕ) → result_of number session taken written b reply ≡ host_call session input b reply
     unfolding host_call provided
     host_none input = rw (failing e f) (returns_none h)
 
-    pub key_none : (key : ℕ) → result number session taken written b reply ≡ key_call session key b reply
+    pub key_none : (key : ℕ) → result_of number session taken written b reply ≡ key_call session key b reply
     unfolding key_call provided
     key_none key = rw (failing e f) (returns_none h)
 
   module _ {s : Session} {a : Answer} {number : ℕ} {session' : List ℕ} {taken written : ℕ} {b' : Screen} {reply' : List ℕ} (t : not found ≡ false)
       (d : s ≡ decoded session) (g : Gives a number session' taken written) where
     pub host_done : (input : List ℕ) → outcome a b' reply' ≡ host_bytes (state s b) reply input
-        → result number session' taken written b' reply' ≡ host_call session input b reply
+        → result_of number session' taken written b' reply' ≡ host_call session input b reply
     unfolding host_call provided
     host_done input h = rw (passing e t) (returns_told (rw d at h) g)
 
     pub key_done : (key : ℕ) {code : ℕ} → code ≡ key_byte key → outcome a b' reply' ≡ one_key (state s b) reply code
-        → result number session' taken written b' reply' ≡ key_call session key b reply
+        → result_of number session' taken written b' reply' ≡ key_call session key b reply
     unfolding key_call provided
     key_done key c h = rw (passing e t) (returns_told (rw (d, c, key_capped _ reply key) at h) g)
 
 -- ---- a call that is refused leaves the session's bytes, and all else, as they came
 
 abbrev refused_call : Refusal → List ℕ → Screen → List ℕ → Result
-refused_call r session b reply = result (number_of r) session 0 0 b reply
+refused_call r session b reply = result_of (number_of r) session 0 0 b reply
 
 module _ (session : List ℕ) (known : is_session session ≡ true) (b : Screen) (reply : List ℕ) where
   pub host_refused : (input : List ℕ) →

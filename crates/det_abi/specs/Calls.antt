@@ -16,13 +16,13 @@ pub record Result : Type 0 where
   pub screen : Screen
   pub reply : List ℕ
 
-abbrev pub result : ℕ → List ℕ → ℕ → ℕ → Screen → List ℕ → Result
-result number session taken written b reply =
+abbrev pub result_of : ℕ → List ℕ → ℕ → ℕ → Screen → List ℕ → Result
+result_of number session taken written b reply =
     record { number = number; session = session; taken = taken; written = written; screen = b; reply = reply }
 
 -- an answer as numbers and bytes: 0 where the call is taken, else the refusal's number
 abbrev pub given : Answer → Screen → List ℕ → Result
-given a b reply = result (number_of a.refusal) (encoded a.session) a.taken a.written b reply
+given a b reply = result_of (number_of a.refusal) (encoded a.session) a.taken a.written b reply
 
 -- what the rules say
 abbrev pub told : Outcome → Result
@@ -30,7 +30,7 @@ told o = given o.answer o.screen o.reply
 
 -- 255, before any other number: the bytes are no session, and all stays as it came
 abbrev pub no_session : List ℕ → Screen → List ℕ → Result
-no_session session b reply = result 255 session 0 0 b reply
+no_session session b reply = result_of 255 session 0 0 b reply
 
 -- done where the test is passed, else refused
 unfoldable pub provided : Bool → Result → Result → Result

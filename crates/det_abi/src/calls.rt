@@ -5,7 +5,7 @@ ghost use Rattle.std.specs.Prelude.{◌≡◌, [], length};
 ghost use Rattle.rules.specs.Refusal.{number_of};
 ghost use Rattle.layout.specs.Layout.{session_length, encoded};
 ghost use Rattle.command.specs.Frame.{lent};
-ghost use Rattle.det_abi.specs.Calls.{result, open_call, host_call, key_call, key_byte, Gives};
+ghost use Rattle.det_abi.specs.Calls.{result_of, open_call, host_call, key_call, key_byte, Gives};
 
 use admit::number::number_of;
 use admit::open::open;
@@ -19,8 +19,8 @@ const NO_SESSION: u8 = 255;
 #[tactic(auto, using(layout::proofs::LayoutLaws::stored_there))]
 fn tell(answer: Answer, session: &mut [u8]) -> u8
     requires { length session.old ≡ session_length }
-    ensures* r_value { λ r. ⌜ r ≡ number_of answer.refusal ⌝ }
-    ensures* session_after { λ _. ⌜ session.new ≡ encoded answer.session ⌝ }
+    ensures number { result ≡ number_of answer.refusal }
+    ensures session { session.new ≡ encoded answer.session }
 {
     let next = answer.session;
     encode(next, session);
@@ -31,7 +31,7 @@ fn tell(answer: Answer, session: &mut [u8]) -> u8
 // The same, and the answer's two counts.
 fn give(answer: Answer, session: &mut [u8], taken: &mut usize, written: &mut usize) -> u8
     requires { length session.old ≡ session_length }
-    ensures* { λ r. ⌜ Gives answer r session.new taken.new written.new ⌝ }
+    ensures { Gives answer result session.new taken.new written.new }
 {
     *taken = answer.taken;
     *written = answer.written;
@@ -40,7 +40,7 @@ fn give(answer: Answer, session: &mut [u8], taken: &mut usize, written: &mut usi
 
 // The bytes are no session: nothing is taken, nothing written.
 fn no_session(taken: &mut usize, written: &mut usize) -> u8
-    ensures* { λ r. ⌜ (r ≡ 255) × (taken.new ≡ 0) × (written.new ≡ 0) ⌝ }
+    ensures { (result ≡ 255) × (taken.new ≡ 0) × (written.new ≡ 0) }
 {
     *taken = 0;
     *written = 0;
@@ -49,7 +49,7 @@ fn no_session(taken: &mut usize, written: &mut usize) -> u8
 
 // The byte that stands for a key. A number that is no byte has no meaning, and neither has 255.
 fn key_byte(code: u32) -> u8
-    ensures* { λ r. ⌜ r ≡ key_byte code ⌝ }
+    ensures { result ≡ key_byte code }
 {
     if code < 256 { code as u8 } else { 255 }
 }
@@ -66,8 +66,8 @@ pub extern "C" fn det_open(
     marks: &mut [u8],
     session: &mut [u8],
 ) -> u8
-    ensures* { λ r. ⌜ result r session.new 0 0 (lent chars.new attrs.new marks.new) []
-        ≡ open_call width height edition session.old (lent chars.old attrs.old marks.old) ⌝ }
+    ensures { result_of result session.new 0 0 (lent chars.new attrs.new marks.new) []
+        ≡ open_call width height edition session.old (lent chars.old attrs.old marks.old) }
 {
     if session.len() != SESSION_LENGTH {
         return NO_SESSION;
@@ -89,9 +89,9 @@ pub extern "C" fn det_host(
     taken: &mut usize,
     written: &mut usize,
 ) -> u8
-    ensures* { λ r. ⌜ result r session.new taken.new written.new
+    ensures { result_of result session.new taken.new written.new
         (lent chars.new attrs.new marks.new) reply.new
-        ≡ host_call session.old input.now (lent chars.old attrs.old marks.old) reply.old ⌝ }
+        ≡ host_call session.old input.now (lent chars.old attrs.old marks.old) reply.old }
 {
     let known = is_session(session);
     if !known {
@@ -114,9 +114,9 @@ pub extern "C" fn det_key(
     taken: &mut usize,
     written: &mut usize,
 ) -> u8
-    ensures* { λ r. ⌜ result r session.new taken.new written.new
+    ensures { result_of result session.new taken.new written.new
         (lent chars.new attrs.now marks.new) reply.new
-        ≡ key_call session.old code (lent chars.old attrs.now marks.old) reply.old ⌝ }
+        ≡ key_call session.old code (lent chars.old attrs.now marks.old) reply.old }
 {
     let known = is_session(session);
     if !known {

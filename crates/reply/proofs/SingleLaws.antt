@@ -1,5 +1,5 @@
 -- Laws of fields of one cell each, in a row.
-use mathlib.Core.Path.{◌≡◌}
+use mathlib.Core.Path.{◌≡◌, refl, sym, ◌∙◌}
 use mathlib.Core.Bool.{Bool, true, false, not, ◌&&◌}
 use mathlib.Core.List.{List, [], ◌∷◌, ◌++◌}
 use Prim.Native.Nat.{ℕ, zero, suc, ◌+◌, ◌-◌, ◌*◌, ◌≤◌, ◌<◌}
@@ -12,7 +12,7 @@ use lib.ListN.{length, get_or}
 use lib.Seq.{drop-cons}
 use Rattle.screen.specs.Attributes.{protection, protected_at}
 use Rattle.screen.specs.Fields.{starts_at, opens_at, field_end}
-use Rattle.words.proofs.Laws.{less_or_not, and_left, get_d-within}
+use Rattle.words.proofs.Laws.{less_or_not, not_both, and_left, get_d-within}
 use Rattle.screen.proofs.WordLaws.{first_hit}
 use Rattle.reply.specs.Written.{Wrote}
 use Rattle.reply.specs.Pieces.{doubled_pieces, text_piece, separator_pieces, field_pieces}
@@ -37,6 +37,18 @@ open_next {attrs} {cell} {n} p h e = record {
   opens = λ k a b. less_or_not k (cell + n + 1) (λ l. p.opens k a (omega arith))
       (λ l. let q : k ≡ cell + n + 1 = omega arith in rw q (opens_here attrs (cell + n) h e));
 }
+
+-- an unprotected field starts at each of the cells, so the two attribute bytes before any of them show it
+opens_is : (attrs : List ℕ) (i : ℕ) → i + 1 < length attrs
+    → opens_at attrs (i + 1) ≡ (not (eqb (get_or attrs i 0) (get_or attrs (i + 1) 0)) && not (eqb (protection (get_or attrs (i + 1) 0)) 1))
+unfolding opens_at starts_at protected_at
+opens_is attrs i h = rw add-one (rw (get_d-within attrs i 8 0 (omega arith), get_d-within attrs (suc i) 8 0 (omega arith)) refl)
+
+pub open_missed : {attrs : List ℕ} {cell n : ℕ} (i : ℕ) → i < n → cell + i + 1 < length attrs
+    → (not (eqb (get_or attrs (cell + i) 0) (get_or attrs (cell + i + 1) 0)) && not (eqb (protection (get_or attrs (cell + i + 1) 0)) 1)) ≡ false
+    → EachOpens attrs cell n → ⊥
+open_missed {attrs} {cell} i l h e p =
+    not_both _ (sym (opens_is attrs (cell + i) h) ∙ p.opens (cell + i + 1) (omega arith) (omega arith)) e
 
 -- ---- their pieces
 

@@ -24,10 +24,11 @@ fn opens_between(before: u8, here: u8) -> bool
 }
 
 // Does one start at each of the thirty-two cells after this one? The loop has one way out, so that the compiler tests many at once.
-#[tactic(auto, using(words::proofs::Laws::and_left, words::proofs::Laws::and_right, crate::proofs::SingleLaws::open_none, crate::proofs::SingleLaws::open_next))]
+#[tactic(auto, using(words::proofs::Laws::and_left, words::proofs::Laws::and_right, crate::proofs::SingleLaws::open_none, crate::proofs::SingleLaws::open_next, crate::proofs::SingleLaws::open_missed))]
 fn each_opens(attrs: &[u8], cell: usize) -> bool
     requires { cell + 33 ≤ length attrs.now }
-    ensures { result ≡ true → EachOpens attrs.now cell 32 }
+    ensures opens { result ≡ true → EachOpens attrs.now cell 32 }
+    ensures misses { result ≡ false → EachOpens attrs.now cell 32 → ⊥ }
 {
     let mut all = true;
     let mut i = 0;

@@ -11,10 +11,10 @@ mod sink;
 mod source;
 
 use desk::Desk;
-use libc::STDERR_FILENO;
 use order::Order;
 use sink::Sink;
 use source::{Source, Stand};
+use std::io::{Stdin, Stdout};
 
 type Block = [u8; 65536];
 
@@ -69,6 +69,8 @@ fn turn(
 
 // Plays the whole script. Nothing says that the input ends: the lines count up to a number that no run reaches.
 fn play(
+    stdin: Stdin,
+    stdout: Stdout,
     block: &mut Block,
     bytes: &mut Block,
     chars: &mut Screen,
@@ -79,8 +81,8 @@ fn play(
 ) -> State {
     let mut state = State {
         desk: desk::fresh(chars, attrs, marks),
-        source: source::start(),
-        sink: sink::empty(),
+        source: source::start(stdin),
+        sink: sink::empty(stdout),
         more: true,
     };
     let mut line: u64 = 0;
@@ -96,22 +98,19 @@ fn play(
 }
 
 // Writes what is left, and says where the input could not be read or the output not be written.
-fn finish(out: &Block, state: State) {
+fn finish(rt: &impl Eprint, out: &Block, state: State) {
     let last = sink::flush(out, state.sink);
     let source = state.source;
     let stand = source.stand;
     if let Stand::Failed = stand {
-        io::write_all(STDERR_FILENO, b"replay: standard input cannot be read\n");
+        let _ = eprintln!(rt; "replay: standard input cannot be read");
     }
     if last.failed {
-        io::write_all(
-            STDERR_FILENO,
-            b"replay: standard output cannot be written\n",
-        );
+        let _ = eprintln!(rt; "replay: standard output cannot be written");
     }
 }
 
-fn main() {
+fn main(rt: HostRuntime) {
     let mut block = [0u8; 65536];
     let mut bytes = [0u8; 65536];
     let mut chars = [0u8; 8448];
@@ -120,7 +119,15 @@ fn main() {
     let mut reply = [0u8; 80000];
     let mut out = [0u8; 65536];
     let state = play(
-        &mut block, &mut bytes, &mut chars, &mut attrs, &mut marks, &mut reply, &mut out,
+        rt.stdin(),
+        rt.stdout(),
+        &mut block,
+        &mut bytes,
+        &mut chars,
+        &mut attrs,
+        &mut marks,
+        &mut reply,
+        &mut out,
     );
-    finish(&out, state);
+    finish(&rt, &out, state);
 }

@@ -1,17 +1,20 @@
 // Standard output, written in blocks.
 use crate::hex;
 use crate::number::least;
-use libc::STDOUT_FILENO;
+use itoa::Buffer;
+use std::io::{Stdout, Write};
 
 // How many bytes the block holds that are still to be written, and whether a write has failed.
 #[derive(Clone, Copy)]
 pub struct Sink {
+    pub stdout: Stdout,
     pub length: usize,
     pub failed: bool,
 }
 
-pub(crate) fn empty() -> Sink {
+pub(crate) fn empty(stdout: Stdout) -> Sink {
     Sink {
+        stdout: stdout,
         length: 0,
         failed: false,
     }
@@ -24,8 +27,10 @@ pub(crate) fn flush(out: &[u8], sink: Sink) -> Sink {
         return sink;
     }
     let n = least(length, out.len());
-    let is_written = io::write_all(STDOUT_FILENO, &out[0..n]);
+    let mut stdout = sink.stdout;
+    let is_written = stdout.write_all(&out[0..n]).is_ok();
     Sink {
+        stdout: stdout,
         length: 0,
         failed: !is_written,
     }
@@ -36,12 +41,14 @@ fn store(out: &mut [u8], sink: Sink, byte: u8) -> Sink {
     let length = sink.length;
     if length >= out.len() {
         return Sink {
+            stdout: sink.stdout,
             length: 0,
             failed: true,
         };
     }
     out[length] = byte;
     Sink {
+        stdout: sink.stdout,
         length: length + 1,
         failed: sink.failed,
     }
@@ -69,9 +76,8 @@ pub(crate) fn text(out: &mut [u8], sink: Sink, bytes: &[u8]) -> Sink {
 
 // A number, in decimal.
 pub(crate) fn number(out: &mut [u8], sink: Sink, n: u64) -> Sink {
-    let mut digits = [0u8; 20];
-    let count = io::decimal(n, &mut digits);
-    text(out, sink, &digits[0..count])
+    let mut digits = Buffer::new();
+    text(out, sink, digits.format(n).as_bytes())
 }
 
 // A byte, in hexadecimal.

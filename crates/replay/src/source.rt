@@ -1,6 +1,6 @@
 // Standard input, read in blocks and handed out byte by byte. A line is of fields, parted by one space each, and ends
 // with a newline or with the input. It has no greatest length: no line is ever held whole.
-use libc::STDIN_FILENO;
+use std::io::{Read, Stdin};
 
 // Where the reader stands.
 #[derive(Clone, Copy)]
@@ -20,6 +20,7 @@ pub enum Stand {
 // The block's bytes from `at` up to `end` are still to be handed out.
 #[derive(Clone, Copy)]
 pub struct Source {
+    pub stdin: Stdin,
     pub at: usize,
     pub end: usize,
     pub stand: Stand,
@@ -39,8 +40,9 @@ pub struct Next {
 }
 
 // Before the first line.
-pub(crate) fn start() -> Source {
+pub(crate) fn start(stdin: Stdin) -> Source {
     Source {
+        stdin: stdin,
         at: 0,
         end: 0,
         stand: Stand::LineEnd,
@@ -54,6 +56,7 @@ pub(crate) fn begin(source: Source) -> Source {
         return source;
     };
     Source {
+        stdin: source.stdin,
         at: source.at,
         end: source.end,
         stand: Stand::Line,
@@ -67,6 +70,7 @@ pub(crate) fn spoil(source: Source) -> Source {
         return source;
     }
     Source {
+        stdin: source.stdin,
         at: source.at,
         end: source.end,
         stand: Stand::Bad,
@@ -95,24 +99,27 @@ fn fill(block: &mut [u8], source: Source) -> Source {
     if source.at < source.end {
         return source;
     }
-    let got = libc::read(STDIN_FILENO, block);
-    if got < 0 {
+    let mut stdin = source.stdin;
+    let Ok(got) = stdin.read(block) else {
         return Source {
+            stdin: stdin,
             at: 0,
             end: 0,
             stand: Stand::Failed,
         };
-    }
+    };
     if got == 0 {
         return Source {
+            stdin: stdin,
             at: 0,
             end: 0,
             stand: Stand::InputEnd,
         };
     }
     Source {
+        stdin: stdin,
         at: 0,
-        end: io::count(got, block),
+        end: got,
         stand: Stand::Line,
     }
 }
@@ -130,6 +137,7 @@ fn take(block: &[u8], source: Source) -> Next {
     match byte {
         b' ' => Next {
             source: Source {
+                stdin: source.stdin,
                 at: at + 1,
                 end: source.end,
                 stand: Stand::Line,
@@ -138,6 +146,7 @@ fn take(block: &[u8], source: Source) -> Next {
         },
         b'\n' => Next {
             source: Source {
+                stdin: source.stdin,
                 at: at + 1,
                 end: source.end,
                 stand: Stand::LineEnd,
@@ -146,6 +155,7 @@ fn take(block: &[u8], source: Source) -> Next {
         },
         _ => Next {
             source: Source {
+                stdin: source.stdin,
                 at: at + 1,
                 end: source.end,
                 stand: Stand::Line,

@@ -4,9 +4,9 @@
 
 ghost use Rattle.std.specs.Prelude.{◌<◌, ◌≤◌, length};
 
-use libc::{STDERR_FILENO, STDIN_FILENO, STDOUT_FILENO};
 use rules::{Answer, Session};
 use screen::cell::Place;
+use std::io::{Read, Stdin, Stdout, Write};
 
 const WIDTH: usize = 8;
 
@@ -123,27 +123,27 @@ fn hand_on(
 
 // Reads once, and hands on what came.
 fn read_some(
+    stdin: Stdin,
     run: Run,
     chars: &mut [u8],
     attrs: &mut [u8],
     marks: &mut [u8],
     reply: &mut [u8],
 ) -> Turn {
-    let mut input = io::buffer();
-    let got = libc::read(STDIN_FILENO, &mut input);
-    if got < 0 {
+    let mut stdin = stdin;
+    let mut input = [0u8; 4096];
+    let Ok(n) = stdin.read(&mut input) else {
         return Turn {
             run: run,
             input: Input::Failed,
         };
-    }
-    if got == 0 {
+    };
+    if n == 0 {
         return Turn {
             run: run,
             input: Input::Ended,
         };
     }
-    let n = io::count(got, &input);
     let after = hand_on(run, &input[..n], chars, attrs, marks, reply);
     Turn {
         run: after,
@@ -151,8 +151,9 @@ fn read_some(
     }
 }
 
-// Reads to the end. Nothing says that the input ends, so the turns count down from a number that no run uses up.
+// Reads to the end. Nothing says that the input ends, so the turns are as many as no run uses up.
 fn read_all(
+    stdin: Stdin,
     run: Run,
     chars: &mut [u8],
     attrs: &mut [u8],
@@ -160,16 +161,14 @@ fn read_all(
     reply: &mut [u8],
 ) -> Turn {
     let mut run = run;
-    let mut turns = u64::MAX;
-    while turns > 0 {
-        let turn = read_some(run, chars, attrs, marks, reply);
+    for _ in 0..u64::MAX {
+        let turn = read_some(stdin, run, chars, attrs, marks, reply);
         let after = turn.run;
         run = after;
         let input = turn.input;
         let Input::Open = input else {
             return turn;
         };
-        turns -= 1;
     }
     Turn {
         run: run,
@@ -177,63 +176,72 @@ fn read_all(
     }
 }
 
-fn print(text: &[u8]) -> bool {
-    io::write_all(STDOUT_FILENO, text)
+fn print(stdout: Stdout, text: &[u8]) -> bool {
+    let mut stdout = stdout;
+    stdout.write_all(text).is_ok()
 }
 
-fn print_number(n: u64) -> bool {
-    io::print_decimal(STDOUT_FILENO, n)
+fn print_number(stdout: Stdout, n: u64) -> bool {
+    let mut stdout = stdout;
+    write!(stdout, "{n}").is_ok()
 }
 
-fn print_cursor(place: Place) -> bool {
-    print(b"cursor ")
-        && print_number(place.x.0 as u64)
-        && print(b" ")
-        && print_number(place.y.0 as u64)
-        && print(b"\n")
+fn print_cursor(stdout: Stdout, place: Place) -> bool {
+    print(stdout, b"cursor ")
+        && print_number(stdout, place.x.0 as u64)
+        && print(stdout, b" ")
+        && print_number(stdout, place.y.0 as u64)
+        && print(stdout, b"\n")
 }
 
 // The characters from one cell up to another, between bars.
-fn print_line(chars: &[u8], from: usize, to: usize) -> bool {
+fn print_line(stdout: Stdout, chars: &[u8], from: usize, to: usize) -> bool {
     if from <= to && to <= chars.len() {
-        return print(b"|") && print(&chars[from..to]) && print(b"|\n");
+        return print(stdout, b"|") && print(stdout, &chars[from..to]) && print(stdout, b"|\n");
     }
     false
 }
 
-fn print_replies(replies: u64) -> bool {
-    print(b"replies ") && print_number(replies) && print(b"\n")
+fn print_replies(stdout: Stdout, replies: u64) -> bool {
+    print(stdout, b"replies ") && print_number(stdout, replies) && print(stdout, b"\n")
 }
 
-fn print_all(run: Run, chars: &[u8]) -> bool {
+fn print_all(stdout: Stdout, run: Run, chars: &[u8]) -> bool {
     let session = run.session;
     let frame = session.frame;
     let cursor = frame.cursor;
-    print_cursor(cursor)
-        && print_line(chars, 0, WIDTH)
-        && print_line(chars, WIDTH, 2 * WIDTH)
-        && print_replies(run.replies)
+    print_cursor(stdout, cursor)
+        && print_line(stdout, chars, 0, WIDTH)
+        && print_line(stdout, chars, WIDTH, 2 * WIDTH)
+        && print_replies(stdout, run.replies)
 }
 
-fn main() {
+fn main(rt: HostRuntime) {
     let mut chars = [0u8; 16];
     let mut attrs = [0u8; 16];
     let mut marks = [0u8; 16];
-    let mut reply = io::buffer();
+    let mut reply = [0u8; 4096];
     let opened = admit::open::open(WIDTH, HEIGHT, SEPTEMBER, &mut chars, &mut attrs, &mut marks);
     let session = opened.session;
     let run = Run {
         session: session,
         replies: 0,
     };
-    let turn = read_all(run, &mut chars, &mut attrs, &mut marks, &mut reply);
+    let turn = read_all(
+        rt.stdin(),
+        run,
+        &mut chars,
+        &mut attrs,
+        &mut marks,
+        &mut reply,
+    );
     let input = turn.input;
     if let Input::Failed = input {
-        io::write_all(STDERR_FILENO, b"show: standard input cannot be read\n");
+        let _ = eprintln!(rt; "show: standard input cannot be read");
         return;
     }
-    let is_printed = print_all(turn.run, &chars);
+    let is_printed = print_all(rt.stdout(), turn.run, &chars);
     if !is_printed {
-        io::write_all(STDERR_FILENO, b"show: standard output cannot be written\n");
+        let _ = eprintln!(rt; "show: standard output cannot be written");
     }
 }

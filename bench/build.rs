@@ -41,7 +41,7 @@ fn link_tally() {
     let library = folder.join("libtally.a");
     let (Ok(folder), true) = (folder.canonicalize(), library.is_file()) else {
         let what = format!("{} is missing", library.display());
-        println!("cargo::error={what}: make it with 'rt staticlib tally'");
+        println!("cargo::error={what}: make it with 'tools/staticlib tally'");
         return;
     };
     println!("cargo::rustc-link-search=native={}", folder.display());

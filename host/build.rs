@@ -14,7 +14,7 @@ fn main() {
     // A relative folder is relative to this one, wherever the linker runs.
     let (Ok(folder), true) = (folder.canonicalize(), library.is_file()) else {
         let what = format!("{} is missing", library.display());
-        let how = "make it with 'rt staticlib det_abi', or name its folder in DET_LIB_DIR";
+        let how = "make it with 'tools/staticlib det_abi', or name its folder in DET_LIB_DIR";
         println!("cargo::error={what}: {how}");
         return;
     };

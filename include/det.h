@@ -9,7 +9,7 @@
  * that a terminal is lies in the caller's memory. Calls on memory that is apart may run at the same
  * time.
  *
- * For x86-64 Linux. 'rt staticlib det_abi' makes target/staticlib/libdet_abi.a; then
+ * For x86-64 Linux. 'tools/staticlib det_abi' makes target/staticlib/libdet_abi.a; then
  *
  *     cc -Iinclude program.c target/staticlib/libdet_abi.a
  *

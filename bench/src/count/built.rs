@@ -8,7 +8,7 @@ pub fn table() -> Table {
     let rustc = env!("RUSTC_VERSION");
     let speed = "release with `lto = \"fat\"`, `codegen-units = 1`, `panic = \"abort\"`";
     let mut rows = vec![
-        row("ours", "by `rt staticlib`, linked statically".into()),
+        row("ours", "by `rt lib`, linked statically".into()),
         row(
             "Rust core, plain",
             format!("{rustc}, `cargo build --release`"),

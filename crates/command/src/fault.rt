@@ -1,9 +1,9 @@
 // The ERROR that a subcommand draws.
-ghost use Rattle.std.specs.Prelude.{◌≡◌, ◌+◌};
+ghost use Rattle.std.specs.Prelude.{◌≡◌, ◌+◌, if◌then◌else◌};
 ghost use Rattle.telnet.specs.Reader.{verb_code};
 ghost use Rattle.telnet.specs.declared.Verb.TheVariants.{Will, Dont};
 ghost use Rattle.screen.specs.Cells.{cell_of};
-ghost use Rattle.words.specs.Words.{if◌then◌else◌, between};
+ghost use Rattle.words.specs.Words.{between};
 ghost use Rattle.rules.specs.Command.{format_count, value_fault, fault_of};
 ghost use Rattle.command.specs.Frame.{seen};
 

@@ -1,6 +1,5 @@
 -- What a decision means: the effect of the rules that it stands for.
-use Rattle.std.specs.Prelude.{◌≡◌, ◌&&◌, List, [], ◌∷◌, ℕ, ◌+◌, ◌*◌, ◌≤◌, eqb, length}
-use Rattle.words.specs.Words.{if◌then◌else◌}
+use Rattle.std.specs.Prelude.{◌≡◌, ◌&&◌, List, [], ◌∷◌, ℕ, ◌+◌, ◌*◌, ◌≤◌, eqb, length, if◌then◌else◌}
 use Rattle.edit.specs.Edits.{filled}
 use Rattle.rules.specs.declared.Held.{Held}
 use Rattle.rules.specs.declared.Edition.{Edition}

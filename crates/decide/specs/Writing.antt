@@ -1,6 +1,5 @@
 -- What happens to a character: written, dropped, refused by guard or refused by class.
-use Rattle.std.specs.Prelude.{◌≡◌, ℕ}
-use Rattle.words.specs.Words.{if◌then◌else◌}
+use Rattle.std.specs.Prelude.{◌≡◌, ℕ, if◌then◌else◌}
 use Rattle.screen.specs.Classes.{takes}
 use Rattle.screen.specs.declared.cell.Place.{Place}
 use Rattle.rules.specs.declared.Key.{Key}

@@ -1,6 +1,6 @@
 // One key: what it means, which refusal it draws, what it does.
-ghost use Rattle.std.specs.Prelude.{◌≡◌, ◌-◌};
-ghost use Rattle.words.specs.Words.{if◌then◌else◌, between};
+ghost use Rattle.std.specs.Prelude.{◌≡◌, ◌-◌, if◌then◌else◌};
+ghost use Rattle.words.specs.Words.{between};
 ghost use Rattle.rules.specs.Key.{key_of, key_tests, pressed};
 ghost use Rattle.rules.specs.Refusal.{verdict};
 ghost use Rattle.command.specs.Frame.{seen};

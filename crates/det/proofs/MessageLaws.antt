@@ -1,4 +1,5 @@
 -- Laws of a byte of a message of option 30: it is read and told, and a SEND that ends is answered.
+use Rattle.std.specs.Prelude.{if◌then◌else◌}
 use mathlib.Core.Path.{◌≡◌, refl}
 use mathlib.Core.Bool.{Bool, true, false, ◌&&◌}
 use mathlib.Core.List.{List, [], ◌∷◌, append-nil}
@@ -9,7 +10,6 @@ use lib.ListN.{length, get_or}
 use types.Run.{OneOf, miss}
 use denote.Enum.Declared.{tag_of}
 use Rattle.telnet.specs.contracts.Phase.{the_type}
-use Rattle.words.specs.Words.{if◌then◌else◌}
 use Rattle.words.specs.Stored.{Room, Emitted}
 use Rattle.words.proofs.Laws.{either, not_both}
 use Rattle.telnet.specs.declared.Phase.{Phase}

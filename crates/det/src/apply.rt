@@ -1,7 +1,6 @@
 // A decision is applied: the reply is written from the characters and marks as they are, then the characters change, then the attribute
 // bytes, then the marks.
-ghost use Rattle.std.specs.Prelude.{◌≡◌};
-ghost use Rattle.words.specs.Words.{if◌then◌else◌};
+ghost use Rattle.std.specs.Prelude.{◌≡◌, if◌then◌else◌};
 ghost use Rattle.rules.specs.Effect.{changed_all, cleared, marks_after};
 ghost use Rattle.command.specs.Frame.{lent, seen};
 ghost use Rattle.decide.specs.Decision.{edited, attrs_of, meant};

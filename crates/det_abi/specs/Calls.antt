@@ -1,6 +1,5 @@
 -- The three operations over numbers and bytes: what each call returns, and each byte that it leaves.
-use Rattle.std.specs.Prelude.{◌≡◌, Bool, true, false, List, [], ℕ, eqb, ltb, length}
-use Rattle.words.specs.Words.{if◌then◌else◌}
+use Rattle.std.specs.Prelude.{◌≡◌, Bool, true, false, List, [], ℕ, eqb, ltb, length, if◌then◌else◌}
 use Rattle.rules.specs.declared.Answer.{Answer}
 use Rattle.rules.specs.Session.{Screen, state}
 use Rattle.rules.specs.Refusal.{number_of}

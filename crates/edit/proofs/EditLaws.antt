@@ -1,4 +1,5 @@
 -- Laws of the edits: what each keeps, and what stands in each cell afterwards.
+use Rattle.std.specs.Prelude.{if◌then◌else◌}
 use mathlib.Core.Path.{◌≡◌, refl, sym, ◌∙◌}
 use mathlib.Core.Bool.{Bool, true, false, not, ◌&&◌}
 use mathlib.Core.List.{List, ◌++◌}
@@ -9,7 +10,6 @@ use borrow.Rule.Slice.PartMut.{put_mid, Post-is}
 use lib.Dec.{leb, ltb, eqb}
 use lib.ListN.{length, get_or, set, take, drop, replicate, length-set, length-drop, length-replicate, get_or-replicate, get_or-eq_default}
 use lib.Seq.{paste, length-take-le, get_or-take, get_or-drop, get_or-set_same, get_or-set_other}
-use Rattle.words.specs.Words.{if◌then◌else◌}
 use Rattle.screen.specs.Words.{in_range}
 use Rattle.screen.specs.Attributes.{protection, protected_at, guarded_at}
 use Rattle.edit.specs.declared.range.Shift.{Shift}

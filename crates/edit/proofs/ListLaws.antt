@@ -1,4 +1,5 @@
 -- Laws of lists by their elements: one that a loop fills from either end, and one whose part is replaced.
+use Rattle.std.specs.Prelude.{if◌then◌else◌}
 use mathlib.Core.Path.{◌≡◌, refl, sym, ap, ◌∙◌}
 use mathlib.Core.Bool.{Bool, true, false}
 use mathlib.Core.List.{List, ◌++◌}
@@ -8,7 +9,7 @@ use borrow.Author.Tests.{eqb-true, eqb-false, ltb-true, ltb-false, lt-ltb, le-lt
 use lib.Dec.{eqb, ltb, leb}
 use lib.ListN.{length, get_or, set, take, drop, length-set, length-append, length-drop, get_or-append, get_or-eq_default}
 use lib.Seq.{get_or-set_same, get_or-set_other, get_or-append-add, get_or-take, get_or-drop, length-take-le}
-use Rattle.words.specs.Words.{if◌then◌else◌, tabulate}
+use Rattle.words.specs.Words.{tabulate}
 use Rattle.screen.specs.Words.{in_range}
 use Rattle.words.proofs.Laws.{true_or_false, and_false, get_d-within, tabulated}
 

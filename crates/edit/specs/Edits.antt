@@ -1,10 +1,10 @@
 -- Document 01, "Subcommands", and document 02, request (v): what becomes of the characters, attribute bytes and marks of a range of
 -- cells, from `from` up to `end`, that one excluded.
-use Rattle.std.specs.Prelude.{◌≡◌, Bool, not, ◌&&◌, List, ◌++◌, ℕ, ◌+◌, ◌-◌, leb, ltb, eqb, length, get_or, take, drop}
+use Rattle.std.specs.Prelude.{◌≡◌, Bool, not, ◌&&◌, List, ◌++◌, ℕ, ◌+◌, ◌-◌, leb, ltb, eqb, length, get_or, take, drop, if◌then◌else◌}
 use Rattle.std.proofs.Math.Seq.{paste}
 use Rattle.edit.specs.declared.range.Shift.{Shift}
 use Rattle.edit.specs.declared.range.Shift.TheVariants.{Insertion, Deletion}
-use Rattle.words.specs.Words.{if◌then◌else◌, tabulate}
+use Rattle.words.specs.Words.{tabulate}
 use Rattle.screen.specs.Words.{in_range, some_in}
 use Rattle.screen.specs.Attributes.{guarded_at}
 

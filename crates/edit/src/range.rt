@@ -1,6 +1,5 @@
 // What becomes of the characters, attribute bytes and marks of a range of cells, from `from` up to `end`.
-ghost use Rattle.std.specs.Prelude.{◌≡◌, false, ◌&&◌, ◌+◌, ◌-◌, ◌<◌, leb, length};
-ghost use Rattle.words.specs.Words.{if◌then◌else◌};
+ghost use Rattle.std.specs.Prelude.{◌≡◌, false, ◌&&◌, ◌+◌, ◌-◌, ◌<◌, leb, length, if◌then◌else◌};
 ghost use Rattle.edit.specs.Edits.{deleted_cell, inserted_cell, deleted, inserted, shifted, on_part, erased, filled};
 
 use screen::attribute::protection;

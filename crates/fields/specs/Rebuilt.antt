@@ -1,6 +1,5 @@
 -- Document 02, request (vii): the list after its first records were written anew.
-use Rattle.std.specs.Prelude.{List, ◌++◌, ℕ, ltb, length, take, drop}
-use Rattle.words.specs.Words.{if◌then◌else◌}
+use Rattle.std.specs.Prelude.{List, ◌++◌, ℕ, ltb, length, take, drop, if◌then◌else◌}
 use Rattle.screen.specs.FieldList.{fields_of}
 use Rattle.screen.specs.declared.record.FieldRecord.{FieldRecord}
 

@@ -16,7 +16,7 @@
 --   178 to 205  the message's copy of the 28 values
 --   206 to 210  the facility maps received, of any value: edit, erase, transmit, the two bytes of format
 --   211         the edition: 0 June's (RFC 731), 1 September's (RFC 732)
-use Rattle.std.specs.Prelude.{Bool, true, false, ◌&&◌, ◌||◌, List, [], ◌∷◌, ◌++◌, ℕ, ◌+◌, leb, eqb, length, get_or}
+use Rattle.std.specs.Prelude.{Bool, true, false, ◌&&◌, ◌||◌, List, [], ◌∷◌, ◌++◌, ℕ, ◌+◌, leb, eqb, length, get_or, if◌then◌else◌}
 use Rattle.telnet.specs.declared.Verb.{Verb}
 use Rattle.telnet.specs.declared.Verb.TheVariants.{Will, Wont, Do, Dont}
 use Rattle.telnet.specs.declared.Phase.{Phase}
@@ -25,7 +25,7 @@ use Rattle.pad.specs.declared.line.EditLine.{EditLine}
 use Rattle.pad.specs.declared.message.Message.{Message}
 use Rattle.pad.specs.declared.message.Stage.{Stage}
 use Rattle.pad.specs.declared.message.Stage.TheVariants.{Code, Parameter, Value}
-use Rattle.words.specs.Words.{if◌then◌else◌, tabulate}
+use Rattle.words.specs.Words.{tabulate}
 use Rattle.screen.specs.Cells.{place}
 use Rattle.rules.specs.declared.Maps.{Maps}
 use Rattle.rules.specs.declared.Edition.{Edition}

@@ -1,6 +1,5 @@
 -- Document 02, request (i): one byte of a message of option 30.
-use Rattle.std.specs.Prelude.{◌≡◌, ◌&&◌, List, [], ℕ}
-use Rattle.words.specs.Words.{if◌then◌else◌}
+use Rattle.std.specs.Prelude.{◌≡◌, ◌&&◌, List, [], ℕ, if◌then◌else◌}
 use Rattle.telnet.specs.declared.Event.{Event}
 use Rattle.telnet.specs.declared.Event.TheVariants.{Nothing, Data, Negotiation, Begin, Sub, End, EndBare, Lost}
 use Rattle.telnet.specs.Reader.{read_of}

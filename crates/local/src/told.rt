@@ -1,6 +1,5 @@
 // The PAD after what the reader told.
-ghost use Rattle.std.specs.Prelude.{◌≡◌, []};
-ghost use Rattle.words.specs.Words.{if◌then◌else◌};
+ghost use Rattle.std.specs.Prelude.{◌≡◌, [], if◌then◌else◌};
 ghost use Rattle.pad.specs.Line.{line_of};
 ghost use Rattle.pad.specs.Message.{idle_message, begun, after_byte, ended};
 ghost use Rattle.rules.specs.Pad.{is_x3, counts, empties, pad_after, with_message, with_line};

@@ -1,4 +1,5 @@
 -- Titled cases: what is found and what is to be found, and that all of them pass.
+use Rattle.std.specs.Prelude.{if◌then◌else◌}
 use mathlib.Core.Path.{◌≡◌, refl, ap₂}
 use mathlib.Core.Bool.{Bool, true, false, ◌&&◌}
 use mathlib.Core.List.{List, [], ◌∷◌, map}
@@ -6,7 +7,6 @@ use Prim.Native.Nat.{ℕ}
 use Prim.Native.String.{String}
 use borrow.Author.Tests.{eqb-true}
 use lib.Dec.{eqb}
-use Rattle.words.specs.Words.{if◌then◌else◌}
 use Rattle.words.proofs.Laws.{true_or_false, not_both, and_left, and_right}
 
 pub record Case : Type 0 where

@@ -1,6 +1,5 @@
 -- Document 02, request (i), "edit line": typed text that waits. What it holds is a list of at most 128 characters.
-use Rattle.std.specs.Prelude.{Bool, true, false, not, ◌&&◌, List, [], ◌∷◌, ◌++◌, ℕ, zero, suc, ◌-◌, eqb, leb, ltb, length, get_or, take, replicate}
-use Rattle.words.specs.Words.{if◌then◌else◌}
+use Rattle.std.specs.Prelude.{Bool, true, false, not, ◌&&◌, List, [], ◌∷◌, ◌++◌, ℕ, zero, suc, ◌-◌, eqb, leb, ltb, length, get_or, take, replicate, if◌then◌else◌}
 use Rattle.pad.specs.declared.line.EditLine.{EditLine}
 
 -- the line's stated capacity

@@ -1,6 +1,5 @@
 -- RFC 1053, section 2, and document 02, request (i): a message of option 30, the bytes between the option byte and IAC SE.
-use Rattle.std.specs.Prelude.{Bool, true, false, ◌&&◌, List, [], ◌∷◌, ℕ, eqb, leb, replicate}
-use Rattle.words.specs.Words.{if◌then◌else◌}
+use Rattle.std.specs.Prelude.{Bool, true, false, ◌&&◌, List, [], ◌∷◌, ℕ, eqb, leb, replicate, if◌then◌else◌}
 use Rattle.pad.specs.declared.parameter.Values.{Values}
 use Rattle.pad.specs.declared.message.Stage.{Stage}
 use Rattle.pad.specs.declared.message.Stage.TheVariants.{Code, Parameter, Value}

@@ -1,6 +1,6 @@
 -- RFC 1053, section 6, and document 02, request (i): the parameters that are held, what each may be, where each starts.
-use Rattle.std.specs.Prelude.{Bool, true, false, ◌&&◌, ◌||◌, List, [], ◌∷◌, map, ℕ, ◌+◌, ◌-◌, eqb, ltb, get_or, set}
-use Rattle.words.specs.Words.{if◌then◌else◌, between}
+use Rattle.std.specs.Prelude.{Bool, true, false, ◌&&◌, ◌||◌, List, [], ◌∷◌, map, ℕ, ◌+◌, ◌-◌, eqb, ltb, get_or, set, if◌then◌else◌}
+use Rattle.words.specs.Words.{between}
 use Rattle.pad.specs.declared.parameter.Values.{Values}
 
 -- ---- the list

@@ -1,4 +1,5 @@
 -- What the pieces come to, where there is room for them all.
+use Rattle.std.specs.Prelude.{if◌then◌else◌}
 use mathlib.Core.Path.{◌≡◌, refl, sym, ap, subst, ◌∙◌}
 use mathlib.Core.Bool.{Bool, true, false}
 use mathlib.Core.List.{List, [], ◌∷◌, ◌++◌, append_assoc, append-nil}
@@ -11,7 +12,6 @@ use lib.ListN.{length, length-append}
 use lib.Seq.{sets, length-sets}
 use Rattle.telnet.specs.Reader.{iac, se}
 use Rattle.telnet.specs.Writer.{doubled, subnegotiation}
-use Rattle.words.specs.Words.{if◌then◌else◌}
 use Rattle.words.specs.Stored.{Room, Emitted}
 use Rattle.screen.specs.declared.cell.Place.{Place}
 use Rattle.screen.specs.Cells.{place_of}

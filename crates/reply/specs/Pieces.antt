@@ -1,8 +1,7 @@
 -- The pieces that replies are written in.
-use Rattle.std.specs.Prelude.{Bool, false, true, List, [], ◌∷◌, ◌++◌, ℕ, zero, suc, eqb, length}
+use Rattle.std.specs.Prelude.{Bool, false, true, List, [], ◌∷◌, ◌++◌, ℕ, zero, suc, eqb, length, if◌then◌else◌}
 use Rattle.telnet.specs.Reader.{iac, sb, se}
 use Rattle.telnet.specs.Writer.{negotiation}
-use Rattle.words.specs.Words.{if◌then◌else◌}
 use Rattle.screen.specs.declared.cell.Place.{Place}
 use Rattle.screen.specs.Cells.{place_or_origin}
 use Rattle.screen.specs.Fields.{opens_at, field_end}

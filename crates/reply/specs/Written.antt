@@ -1,7 +1,6 @@
 -- Replies written piece by piece from a place on. A piece that does not fit is left out, and changes nothing.
-use Rattle.std.specs.Prelude.{◌≡◌, List, [], ◌∷◌, ℕ, ◌+◌, leb, length}
+use Rattle.std.specs.Prelude.{◌≡◌, List, [], ◌∷◌, ℕ, ◌+◌, leb, length, if◌then◌else◌}
 use Rattle.std.proofs.lemmas.List.Edits.{sets}
-use Rattle.words.specs.Words.{if◌then◌else◌}
 
 -- a lent buffer, and the place in it that is written next
 pub record Buffer : Type 0 where

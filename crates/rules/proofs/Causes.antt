@@ -1,5 +1,6 @@
 -- Nothing but what the documents name changes the attribute bytes, the options, suppression, the characters, the cursor, or what the PAD
 -- keeps; nothing at all the edition.
+use Rattle.std.specs.Prelude.{if◌then◌else◌}
 use mathlib.Core.Path.{◌≡◌, refl, sym, ◌∙◌}
 use mathlib.Core.Bool.{Bool, true, false, not, ◌&&◌}
 use mathlib.Core.List.{List, [], ◌∷◌, ◌++◌, map}
@@ -14,7 +15,7 @@ use Rattle.telnet.specs.declared.Event.TheVariants.{Nothing, Data, Negotiation, 
 use Rattle.telnet.specs.Reader.{read_of}
 use Rattle.edit.specs.declared.range.Shift.{Shift}
 use Rattle.screen.specs.declared.cell.Place.{Place}
-use Rattle.words.specs.Words.{if◌then◌else◌, between}
+use Rattle.words.specs.Words.{between}
 use Rattle.words.proofs.Laws.{either, true_or_false, not_both, and_left, and_right, and_off, in_between}
 use Rattle.pad.specs.declared.message.Stage.{Stage}
 use Rattle.pad.specs.declared.message.Stage.TheVariants.{Code, Parameter, Value}

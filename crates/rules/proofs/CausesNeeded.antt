@@ -1,3 +1,4 @@
+use Rattle.std.specs.Prelude.{if◌then◌else◌}
 -- Each cause that specs/Causes.antt names can change what it is named for: no name stands there for nothing.
 use mathlib.Core.Path.{◌≡◌, refl, ap, ◌∙◌}
 use mathlib.Core.Bool.{Bool, true, false, not, ◌||◌}
@@ -7,7 +8,6 @@ use Prim.Native.String.{String}
 use lib.Dec.{leb, eqb, leb-zero}
 use lib.ListN.{replicate, set}
 use Rattle.telnet.specs.Writer.{subnegotiation}
-use Rattle.words.specs.Words.{if◌then◌else◌}
 use Rattle.words.proofs.Laws.{true_or_false, not_both, and_right}
 use Rattle.screen.specs.Cells.{cell_of}
 use Rattle.pad.specs.Parameters.{start_values}

@@ -1,11 +1,12 @@
 -- Changes keep the number of characters, and each character printable.
+use Rattle.std.specs.Prelude.{if◌then◌else◌}
 use mathlib.Core.Path.{◌≡◌, refl, sym, ◌∙◌}
 use mathlib.Core.Bool.{Bool, true, false, not, ◌&&◌, and_assoc}
 use mathlib.Core.List.{List, [], ◌∷◌, ◌++◌}
 use Prim.Native.Nat.{ℕ, zero, suc, ◌+◌, ◌-◌}
 use lib.Dec.{ltb}
 use lib.ListN.{length, get_or, set, take, drop, length-set, take-append-drop}
-use Rattle.words.specs.Words.{if◌then◌else◌, tabulate}
+use Rattle.words.specs.Words.{tabulate}
 use Rattle.screen.specs.Words.{in_range}
 use Rattle.screen.specs.Attributes.{guarded_at}
 use Rattle.edit.specs.declared.range.Shift.{Shift}

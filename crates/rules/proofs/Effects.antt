@@ -1,4 +1,5 @@
 -- What every effect keeps: the size of the screen, the cursor on it, printable characters, a reply within the room.
+use Rattle.std.specs.Prelude.{if◌then◌else◌}
 use mathlib.Core.Path.{◌≡◌, refl}
 use mathlib.Core.Bool.{Bool, true, false, ◌&&◌}
 use mathlib.Core.List.{List, [], ◌∷◌}
@@ -16,7 +17,7 @@ use Rattle.telnet.specs.Writer.{doubled, subnegotiation, negotiation}
 use Rattle.edit.specs.declared.range.Shift.{Shift}
 use Rattle.edit.specs.declared.range.Shift.TheVariants.{Deletion}
 use Rattle.screen.specs.declared.cell.Place.{Place}
-use Rattle.words.specs.Words.{if◌then◌else◌, between}
+use Rattle.words.specs.Words.{between}
 use Rattle.screen.specs.Cells.{place_of}
 use Rattle.words.proofs.Laws.{either, not_both, and_left, and_right}
 use Rattle.edit.proofs.EditLaws.{filled_length}

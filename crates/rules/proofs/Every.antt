@@ -1,4 +1,5 @@
 -- Sentences of documents 01 and 02 that range over all codes, keys, options or bytes: each once, over all of them.
+use Rattle.std.specs.Prelude.{if◌then◌else◌}
 use mathlib.Core.Path.{◌≡◌, refl, ap, ◌∙◌}
 use mathlib.Core.Bool.{Bool, true, false}
 use mathlib.Core.List.{List, [], ◌∷◌, ◌++◌}
@@ -13,7 +14,7 @@ use Rattle.telnet.specs.declared.Step.{Step}
 use Rattle.telnet.specs.declared.Verb.TheVariants.{Will, Wont, Do, Dont}
 use Rattle.telnet.specs.Reader.{reader}
 use Rattle.telnet.specs.Writer.{subnegotiation, negotiation}
-use Rattle.words.specs.Words.{if◌then◌else◌, between, tabulate}
+use Rattle.words.specs.Words.{between, tabulate}
 use Rattle.words.proofs.Laws.{either, true_or_false}
 use Rattle.rules.specs.declared.Held.{Held}
 use Rattle.rules.specs.declared.Maps.{Maps}

@@ -1,4 +1,5 @@
 -- How many bytes a reply and its parts take.
+use Rattle.std.specs.Prelude.{if◌then◌else◌}
 use mathlib.Core.Path.{◌≡◌}
 use mathlib.Core.Bool.{Bool, true, false, not}
 use mathlib.Core.List.{List, [], ◌∷◌, ◌++◌}
@@ -15,7 +16,6 @@ use Rattle.pad.specs.Response.{response_of}
 use Rattle.pad.proofs.ResponseLaws.{response_most}
 use Rattle.screen.specs.Words.{first_of}
 use Rattle.screen.specs.Attributes.{protected_at}
-use Rattle.words.specs.Words.{if◌then◌else◌}
 use Rattle.screen.specs.Cells.{place_of}
 use Rattle.screen.specs.Fields.{starts_at, opens_at, field_end}
 use Rattle.edit.specs.Edits.{some_marked, text_of}

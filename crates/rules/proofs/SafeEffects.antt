@@ -1,5 +1,6 @@
 -- Protection in effect and none of the seven executed: what a host byte does is safe, and what a key does that is not refused.
 -- Most cases only move the cursor or say bytes: there `search` finds each part of `SafeEffect` by itself.
+use Rattle.std.specs.Prelude.{if◌then◌else◌}
 use mathlib.Core.Path.{◌≡◌, refl}
 use mathlib.Core.Bool.{Bool, true, false, not, ◌&&◌}
 use mathlib.Core.List.{List, [], ◌∷◌}
@@ -14,7 +15,6 @@ use Rattle.telnet.specs.declared.Event.TheVariants.{Nothing, Data, Negotiation, 
 use Rattle.telnet.specs.Reader.{verb_code}
 use Rattle.edit.specs.declared.range.Shift.{Shift}
 use Rattle.edit.specs.declared.range.Shift.TheVariants.{Deletion}
-use Rattle.words.specs.Words.{if◌then◌else◌}
 use Rattle.screen.specs.Attributes.{protected_at}
 use Rattle.screen.specs.Fields.{field_end, span_end}
 use Rattle.words.proofs.Laws.{either, not_both, and_left}

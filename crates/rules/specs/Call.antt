@@ -1,7 +1,6 @@
 -- Lists of calls, each of host bytes or of a key with the reply buffer that it is lent, and the commands that they execute.
-use Rattle.std.specs.Prelude.{List, [], ◌∷◌, ◌++◌, ℕ}
+use Rattle.std.specs.Prelude.{List, [], ◌∷◌, ◌++◌, ℕ, if◌then◌else◌}
 use Rattle.rules.specs.declared.Answer.{Answer}
-use Rattle.words.specs.Words.{if◌then◌else◌}
 use Rattle.rules.specs.Refusal.{is_taken}
 use Rattle.rules.specs.Effect.{Executed}
 use Rattle.rules.specs.Session.{State, state}

@@ -1,11 +1,11 @@
 -- Documents 01 and 02: what alone may change the attribute bytes, the options, suppression, the maps received, the characters, the
 -- marks, the cursor, and what the PAD keeps. Nothing here is used by the rules: these are sentences about them.
-use Rattle.std.specs.Prelude.{◌≡◌, Bool, true, false, not, ◌&&◌, ◌||◌, List, [], ◌∷◌, ℕ, ltb, eqb, take}
+use Rattle.std.specs.Prelude.{◌≡◌, Bool, true, false, not, ◌&&◌, ◌||◌, List, [], ◌∷◌, ℕ, ltb, eqb, take, if◌then◌else◌}
 use Rattle.telnet.specs.declared.Verb.{Verb}
 use Rattle.telnet.specs.declared.Event.{Event}
 use Rattle.telnet.specs.declared.Event.TheVariants.{Nothing, Data, Negotiation, Begin, Sub, End, EndBare, Lost}
 use Rattle.telnet.specs.Reader.{verb_code, read_of}
-use Rattle.words.specs.Words.{if◌then◌else◌, between}
+use Rattle.words.specs.Words.{between}
 use Rattle.pad.specs.declared.message.Stage.{Stage}
 use Rattle.pad.specs.declared.message.Stage.TheVariants.{Code, Parameter, Value}
 use Rattle.rules.specs.declared.Held.{Held}

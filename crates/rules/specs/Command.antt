@@ -1,11 +1,11 @@
 -- Document 01, "Subcommands", and document 02, requests (ii), (iii), (v) and (vi): the list of commands, what governs each, the ERROR
 -- that one draws, and the seven that reach past protection.
-use Rattle.std.specs.Prelude.{Bool, true, false, not, ◌&&◌, List, [], ◌∷◌, ℕ, suc, ◌+◌, ◌*◌, leb, ltb, eqb, get_or}
+use Rattle.std.specs.Prelude.{Bool, true, false, not, ◌&&◌, List, [], ◌∷◌, ℕ, suc, ◌+◌, ◌*◌, leb, ltb, eqb, get_or, if◌then◌else◌}
 use Rattle.telnet.specs.Reader.{verb_code}
 use Rattle.telnet.specs.declared.Verb.TheVariants.{Will, Do, Dont}
 use Rattle.edit.specs.declared.range.Shift.TheVariants.{Insertion, Deletion}
 use Rattle.screen.specs.declared.cell.Place.{Place}
-use Rattle.words.specs.Words.{if◌then◌else◌, between}
+use Rattle.words.specs.Words.{between}
 use Rattle.screen.specs.Cells.{place, on_screen}
 use Rattle.rules.specs.declared.Held.{Held}
 use Rattle.rules.specs.declared.Facility.TheVariants.{Editing, Erasing, Transmitting, Formatting}

@@ -1,8 +1,7 @@
 -- Document 01, "Telnet bytes", "Cells, fields and guards", "Subcommands" and "Keys", and document 02, request (iii): where the cursor
 -- goes.
-use Rattle.std.specs.Prelude.{Bool, not, ℕ, ◌+◌, ◌-◌, ◌/◌, ◌%◌, min, ltb}
+use Rattle.std.specs.Prelude.{Bool, not, ℕ, ◌+◌, ◌-◌, ◌/◌, ◌%◌, min, ltb, if◌then◌else◌}
 use Rattle.screen.specs.declared.cell.Place.{Place}
-use Rattle.words.specs.Words.{if◌then◌else◌}
 use Rattle.screen.specs.Cells.{place, place_of}
 use Rattle.screen.specs.Attributes.{protected_at, guarded_at}
 use Rattle.screen.specs.Fields.{opens_at, first_from, last_before}

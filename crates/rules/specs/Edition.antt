@@ -1,7 +1,7 @@
 -- Document 02, request (vi): the edition, RFC 731 (June, source document 000) or RFC 732 (September, source document 003), and what code
 -- a command has in each.
-use Rattle.std.specs.Prelude.{◌≡◌, Bool, true, not, ◌&&◌, ◌||◌, ℕ, ◌+◌, ◌-◌, ltb, eqb}
-use Rattle.words.specs.Words.{if◌then◌else◌, between}
+use Rattle.std.specs.Prelude.{◌≡◌, Bool, true, not, ◌&&◌, ◌||◌, ℕ, ◌+◌, ◌-◌, ltb, eqb, if◌then◌else◌}
+use Rattle.words.specs.Words.{between}
 use Rattle.rules.specs.declared.Edition.{Edition}
 use Rattle.rules.specs.declared.Edition.TheVariants.{June, September}
 

@@ -1,11 +1,10 @@
 -- What a host byte or a key does. An effect is settled by the view alone: it names the characters that it moves and sends, and the
 -- marks that it sets and asks for, by their cells. Only then are the characters and the marks touched.
-use Rattle.std.specs.Prelude.{Bool, List, [], ◌∷◌, ◌++◌, ℕ, length, set, replicate}
+use Rattle.std.specs.Prelude.{Bool, List, [], ◌∷◌, ◌++◌, ℕ, length, set, replicate, if◌then◌else◌}
 use Rattle.telnet.specs.Writer.{subnegotiation}
 use Rattle.edit.specs.declared.range.Shift.{Shift}
 use Rattle.edit.specs.Edits.{shifted, on_part, erased, filled, some_marked, text_of}
 use Rattle.rules.specs.declared.Held.{Held}
-use Rattle.words.specs.Words.{if◌then◌else◌}
 use Rattle.rules.specs.Session.{Screen, View}
 use Rattle.rules.specs.Number.{det_option}
 use Rattle.rules.specs.Command.{Row}

@@ -1,7 +1,7 @@
 -- Document 01, "Keys", and document 02, requests (v) and (vi).
-use Rattle.std.specs.Prelude.{Bool, true, false, not, ◌||◌, List, [], ◌∷◌, ℕ, ◌+◌, ◌-◌, eqb}
+use Rattle.std.specs.Prelude.{Bool, true, false, not, ◌||◌, List, [], ◌∷◌, ℕ, ◌+◌, ◌-◌, eqb, if◌then◌else◌}
 use Rattle.edit.specs.declared.range.Shift.TheVariants.{Deletion}
-use Rattle.words.specs.Words.{if◌then◌else◌, between}
+use Rattle.words.specs.Words.{between}
 use Rattle.screen.specs.Attributes.{attribute_at}
 use Rattle.screen.specs.Classes.{takes}
 use Rattle.rules.specs.declared.Destination.TheVariants.{NextField, NextOpen, PreviousOpen}

@@ -1,12 +1,11 @@
 -- Document 01, "Subcommands", and document 02, requests (ii), (iii), (v) and (vi): what each does.
-use Rattle.std.specs.Prelude.{Bool, true, false, List, [], ◌∷◌, ℕ, zero, suc, ◌+◌, eqb, replicate}
+use Rattle.std.specs.Prelude.{Bool, true, false, List, [], ◌∷◌, ℕ, zero, suc, ◌+◌, eqb, replicate, if◌then◌else◌}
 use Rattle.telnet.specs.declared.Verb.{Verb}
 use Rattle.telnet.specs.declared.Verb.TheVariants.{Will, Wont, Do, Dont}
 use Rattle.telnet.specs.Reader.{verb_code}
 use Rattle.telnet.specs.Writer.{subnegotiation}
 use Rattle.screen.specs.declared.cell.Place.{Place}
 use Rattle.edit.specs.declared.range.Shift.{Shift}
-use Rattle.words.specs.Words.{if◌then◌else◌}
 use Rattle.screen.specs.Words.{some_in}
 use Rattle.screen.specs.Cells.{place_of, line_start, line_end}
 use Rattle.screen.specs.Attributes.{guarded_at}

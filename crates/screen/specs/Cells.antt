@@ -1,6 +1,5 @@
 -- Document 01, "Sizes and lent memory": places and cells. A screen is `width` cells wide and `height` lines high.
-use Rattle.std.specs.Prelude.{Bool, ◌&&◌, ℕ, ◌+◌, ◌*◌, ◌/◌, ◌%◌, ltb}
-use Rattle.words.specs.Words.{if◌then◌else◌}
+use Rattle.std.specs.Prelude.{Bool, ◌&&◌, ℕ, ◌+◌, ◌*◌, ◌/◌, ◌%◌, ltb, if◌then◌else◌}
 use Rattle.screen.specs.declared.cell.Line.{Line}
 use Rattle.screen.specs.declared.cell.Place.{Place}
 

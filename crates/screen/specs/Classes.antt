@@ -1,6 +1,6 @@
 -- Document 01, "Keys": the byte classes.
-use Rattle.std.specs.Prelude.{Bool, true, ◌||◌, ℕ, ◌+◌, eqb}
-use Rattle.words.specs.Words.{if◌then◌else◌, between}
+use Rattle.std.specs.Prelude.{Bool, true, ◌||◌, ℕ, ◌+◌, eqb, if◌then◌else◌}
+use Rattle.words.specs.Words.{between}
 use Rattle.screen.specs.Attributes.{protection}
 
 -- what an alphabetic cell takes (protection 2): a letter or the space

@@ -1,6 +1,5 @@
 -- Document 02, request (vii): the list of all fields as records, and the unprotected field that a cell is in.
-use Rattle.std.specs.Prelude.{◌≡◌, Bool, false, not, List, [], ◌∷◌, ℕ, zero, suc, ◌+◌, ◌-◌, ◌≤◌, ◌<◌, eqb, ltb, length, get_or}
-use Rattle.words.specs.Words.{if◌then◌else◌}
+use Rattle.std.specs.Prelude.{◌≡◌, Bool, false, not, List, [], ◌∷◌, ℕ, zero, suc, ◌+◌, ◌-◌, ◌≤◌, ◌<◌, eqb, ltb, length, get_or, if◌then◌else◌}
 use Rattle.screen.specs.Attributes.{protected_at}
 use Rattle.screen.specs.Fields.{Field, opens_at, field_start, field_end}
 use Rattle.screen.specs.declared.record.FieldRecord.{FieldRecord}

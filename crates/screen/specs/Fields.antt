@@ -1,6 +1,5 @@
 -- Document 01, "Cells, fields and guards": where fields start and end, and the edit span.
-use Rattle.std.specs.Prelude.{◌≡◌, Bool, true, not, ◌&&◌, List, ℕ, zero, suc, ◌+◌, ◌-◌, ◌≤◌, ◌<◌, min, eqb, length}
-use Rattle.words.specs.Words.{if◌then◌else◌}
+use Rattle.std.specs.Prelude.{◌≡◌, Bool, true, not, ◌&&◌, List, ℕ, zero, suc, ◌+◌, ◌-◌, ◌≤◌, ◌<◌, min, eqb, length, if◌then◌else◌}
 use Rattle.screen.specs.Words.{first_of, last_of}
 use Rattle.screen.specs.Attributes.{attribute_at, protected_at}
 

@@ -1,6 +1,5 @@
 -- What the scans of the screen look for, and the cells that document 01 names by them.
-use Rattle.std.specs.Prelude.{Bool, not, ◌&&◌, List, ℕ, ◌+◌, ◌*◌, eqb, length}
-use Rattle.words.specs.Words.{if◌then◌else◌}
+use Rattle.std.specs.Prelude.{Bool, not, ◌&&◌, List, ℕ, ◌+◌, ◌*◌, eqb, length, if◌then◌else◌}
 use Rattle.screen.specs.Cells.{cell_of, place_of, on_screen}
 use Rattle.screen.specs.Attributes.{guarded_at}
 use Rattle.screen.specs.Fields.{starts_at, opens_at, first_from}

@@ -1,6 +1,5 @@
 -- Ranges of cells, and the first and the last number that passes a test.
-use Rattle.std.specs.Prelude.{Bool, ◌&&◌, ℕ, zero, suc, ◌-◌, leb, ltb}
-use Rattle.words.specs.Words.{if◌then◌else◌}
+use Rattle.std.specs.Prelude.{Bool, ◌&&◌, ℕ, zero, suc, ◌-◌, leb, ltb, if◌then◌else◌}
 
 -- from a cell up to another, that one excluded: how every range of cells is given
 abbrev pub in_range : ℕ → ℕ → ℕ → Bool

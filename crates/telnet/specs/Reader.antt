@@ -1,6 +1,5 @@
 -- Document 01, "Telnet bytes": what one byte does to the reader. Behind it stand RFC 854 and RFC 855.
-use Rattle.std.specs.Prelude.{ℕ, eqb}
-use Rattle.words.specs.Words.{if◌then◌else◌}
+use Rattle.std.specs.Prelude.{ℕ, eqb, if◌then◌else◌}
 use Rattle.telnet.specs.declared.Verb.{Verb}
 use Rattle.telnet.specs.declared.Verb.TheVariants.{Will, Wont, Do, Dont}
 use Rattle.telnet.specs.declared.Phase.{Phase}

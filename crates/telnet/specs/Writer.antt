@@ -1,6 +1,5 @@
 -- What a sender writes: data and payloads with every 255 doubled, subnegotiations, negotiation commands.
-use Rattle.std.specs.Prelude.{ℕ, List, [], ◌∷◌, ◌++◌, eqb}
-use Rattle.words.specs.Words.{if◌then◌else◌}
+use Rattle.std.specs.Prelude.{ℕ, List, [], ◌∷◌, ◌++◌, eqb, if◌then◌else◌}
 use Rattle.telnet.specs.declared.Verb.{Verb}
 use Rattle.telnet.specs.Reader.{iac, sb, se, verb_code}
 

@@ -1,6 +1,5 @@
 -- What becomes of the lent characters, and host data in which an LF is passed over.
-use Rattle.std.specs.Prelude.{◌≡◌, Bool, ◌&&◌, List, [], ◌∷◌, ℕ, eqb}
-use Rattle.words.specs.Words.{if◌then◌else◌}
+use Rattle.std.specs.Prelude.{◌≡◌, Bool, ◌&&◌, List, [], ◌∷◌, ℕ, eqb, if◌then◌else◌}
 use Rattle.rules.specs.declared.Frame.{Frame}
 use Rattle.rules.specs.Effect.{Effect, changed_all}
 

@@ -1,5 +1,6 @@
 -- Laws of echoes: bytes by place; a signal by its style.
-use Rattle.typing.proofs.Kit.{◌≡◌, refl, ◌∙◌, ℕ, zero, suc, ◌*◌, ◌/◌, ◌%◌, ◌≤◌, ◌<◌, arith, eqb, length, get_or, replicate, length-replicate, if◌then◌else◌, true_or_false, less_or_not}
+use Rattle.std.specs.Prelude.{if◌then◌else◌}
+use Rattle.typing.proofs.Kit.{◌≡◌, refl, ◌∙◌, ℕ, zero, suc, ◌*◌, ◌/◌, ◌%◌, ◌≤◌, ◌<◌, arith, eqb, length, get_or, replicate, length-replicate, true_or_false, less_or_not}
 use Rattle.pad.specs.declared.parameter.Values.{Values}
 use Rattle.typing.specs.declared.echo.Echo.{Echo}
 use Rattle.typing.specs.declared.echo.Echo.TheVariants.{Silence, Repeated, Rubouts, Struck}

@@ -1,4 +1,5 @@
 -- What the proofs of this crate take from the kit and from `words`, under one name.
+use Rattle.std.specs.Prelude.{if◌then◌else◌}
 pub use mathlib.Core.Path.{◌≡◌, refl, sym, ◌∙◌}
 pub use mathlib.Core.Bool.{Bool, true, false, not, ◌&&◌}
 pub use mathlib.Core.List.{List, [], ◌∷◌, ◌++◌, append_assoc, append-nil}
@@ -11,7 +12,6 @@ pub use lib.ListN.{length, get_or, take, set, replicate, length-append, length-t
 pub use lib.Seq.{take-suc, take_all, set_out}
 pub use borrow.Author.Rules.{rules}
 pub use borrow.Author.Tests.{leb-false, lt-ltb, le-ltb, le-leb, lt-leb, eq-eqb, ne_eqb, not-true, not-false}
-pub use Rattle.words.specs.Words.{if◌then◌else◌}
 unfoldable pub use Rattle.words.specs.Words.{bit, tabulate}
 pub use Rattle.words.specs.Stored.{Emitted}
 pub use Rattle.words.proofs.Laws.{either, true_or_false, less_or_not, not_both, both, above_between, get_d_tabulate}

@@ -1,6 +1,6 @@
 -- RFC 1053, parameters 2, 13, 19 and 20, and document 02, request (i): what is written as host text at a typed key.
-use Rattle.std.specs.Prelude.{Bool, not, ◌&&◌, List, [], ◌∷◌, ℕ, zero, suc, ◌-◌, eqb, ltb, length, replicate}
-use Rattle.words.specs.Words.{if◌then◌else◌, bit}
+use Rattle.std.specs.Prelude.{Bool, not, ◌&&◌, List, [], ◌∷◌, ℕ, zero, suc, ◌-◌, eqb, ltb, length, replicate, if◌then◌else◌}
+use Rattle.words.specs.Words.{bit}
 use Rattle.pad.specs.declared.parameter.Values.{Values}
 use Rattle.typing.specs.declared.key.Kind.{Kind}
 use Rattle.typing.specs.declared.key.Kind.TheVariants.{DeleteCharacter, DeleteLine, DisplayLine, DeleteWord, Forward, Plain}

@@ -1,7 +1,7 @@
 -- RFC 1053, parameters 3, 13 and 15 to 18 and 129, and document 02, request (i): what a typed key (0 to 127) is, what it does to the
 -- edit line, what goes out.
-use Rattle.std.specs.Prelude.{Bool, true, false, not, ◌&&◌, ◌||◌, List, [], ◌∷◌, ◌++◌, ℕ, eqb, ltb}
-use Rattle.words.specs.Words.{if◌then◌else◌, between, bit}
+use Rattle.std.specs.Prelude.{Bool, true, false, not, ◌&&◌, ◌||◌, List, [], ◌∷◌, ◌++◌, ℕ, eqb, ltb, if◌then◌else◌}
+use Rattle.words.specs.Words.{between, bit}
 use Rattle.pad.specs.declared.parameter.Values.{Values}
 use Rattle.typing.specs.declared.key.Kind.{Kind}
 use Rattle.typing.specs.declared.key.Kind.TheVariants.{DeleteCharacter, DeleteLine, DisplayLine, DeleteWord, Forward, Plain}

@@ -1,6 +1,5 @@
 // What is written as host text at a typed key (RFC 1053, parameters 2, 13, 19 and 20): one byte after the other, by its place.
-ghost use Rattle.std.specs.Prelude.{◌≡◌, [], leb, length, get_or, replicate};
-ghost use Rattle.words.specs.Words.{if◌then◌else◌};
+ghost use Rattle.std.specs.Prelude.{◌≡◌, [], leb, length, get_or, replicate, if◌then◌else◌};
 ghost use Rattle.pad.specs.Parameters.{value_of};
 ghost use Rattle.pad.specs.Line.{capacity, text_of};
 ghost use Rattle.typing.specs.Echo.{echo_set, echoed, key_echo, character_signal, line_signal, editing_set, echoing, rubouts, bytes_of};

@@ -1,6 +1,5 @@
 // What goes out at a typed key (RFC 1053, parameters 3 and 13).
-ghost use Rattle.std.specs.Prelude.{◌≡◌, [], ◌∷◌, ◌++◌, ◌≤◌};
-ghost use Rattle.words.specs.Words.{if◌then◌else◌};
+ghost use Rattle.std.specs.Prelude.{◌≡◌, [], ◌∷◌, ◌++◌, ◌≤◌, if◌then◌else◌};
 ghost use Rattle.words.specs.Stored.{Emitted};
 ghost use Rattle.pad.specs.Line.{text_of};
 ghost use Rattle.typing.specs.Keys.{sent_as, all_sent, out_of};

@@ -1,11 +1,5 @@
--- `if`, tests on numbers and their bits, and a list given by its elements.
+-- Tests on numbers and their bits, and a list given by its elements.
 use Rattle.std.specs.Prelude.{Bool, true, false, not, ◌&&◌, List, [], ◌∷◌, ℕ, zero, suc, ◌/◌, ◌%◌, eqb, leb}
-
-infixr 1 if◌then◌else◌
-module _ {ℓ} {A : Type ℓ} where
-  abbrev pub if◌then◌else◌ : Bool → A → A → A
-  if◌then◌else◌ true x y = x
-  if◌then◌else◌ false x y = y
 
 -- from lo to hi, both included
 abbrev pub between : ℕ → ℕ → ℕ → Bool

@@ -1,6 +1,6 @@
 -- What the code's table of codes holds.
-use Rattle.std.specs.Prelude.{List, [], ◌∷◌, ℕ, zero, suc}
-use Rattle.words.specs.Words.{if◌then◌else◌, between}
+use Rattle.std.specs.Prelude.{List, [], ◌∷◌, ℕ, zero, suc, if◌then◌else◌}
+use Rattle.words.specs.Words.{between}
 use Rattle.rules.specs.declared.Edition.{Edition}
 use Rattle.rules.specs.declared.Edition.TheVariants.{June, September}
 use Rattle.rules.specs.Edition.{meant_by}

@@ -1,11 +1,10 @@
 -- Host bytes, and one key: what is asked for them to be taken, what some bytes do, and what a call comes to.
-use Rattle.std.specs.Prelude.{◌≡◌, Bool, false, List, [], ℕ, ◌+◌, ◌-◌, ◌≤◌, ◌<◌, length, get_or, drop}
+use Rattle.std.specs.Prelude.{◌≡◌, Bool, false, List, [], ℕ, ◌+◌, ◌-◌, ◌≤◌, ◌<◌, length, get_or, drop, if◌then◌else◌}
 use Rattle.telnet.specs.declared.Phase.{Phase}
 use Rattle.telnet.specs.declared.Phase.TheVariants.{Rest, Iac, Negotiating, Opening, OpeningIac, Inside, InsideIac}
 use Rattle.telnet.specs.declared.Event.TheVariants.{Nothing, End}
 use Rattle.telnet.specs.Reader.{tells, read_of}
 use Rattle.telnet.specs.Stream.{part}
-use Rattle.words.specs.Words.{if◌then◌else◌}
 use Rattle.pad.specs.Parameters.{start_values, with_pair}
 use Rattle.pad.specs.Line.{line_of}
 use Rattle.pad.specs.Message.{idle_message}

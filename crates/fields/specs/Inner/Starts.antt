@@ -1,6 +1,5 @@
 -- How many fields start.
-use Rattle.std.specs.Prelude.{List, ℕ, zero, suc, eqb}
-use Rattle.words.specs.Words.{if◌then◌else◌}
+use Rattle.std.specs.Prelude.{List, ℕ, zero, suc, eqb, if◌then◌else◌}
 use Rattle.screen.specs.Fields.{starts_at}
 
 -- as many fields start before a cell

@@ -1,7 +1,6 @@
 -- What is done so far in a loop over host data.
-use Rattle.std.specs.Prelude.{Bool, ◌&&◌, List, ℕ, eqb, get_or, take}
+use Rattle.std.specs.Prelude.{Bool, ◌&&◌, List, ℕ, eqb, get_or, take, if◌then◌else◌}
 use Rattle.rules.specs.declared.Frame.{Frame}
-use Rattle.words.specs.Words.{if◌then◌else◌}
 use Rattle.rules.specs.Session.{View, view}
 use Rattle.rules.specs.Effect.{Effect, quiet}
 use Rattle.rules.specs.Telnet.{host_text}

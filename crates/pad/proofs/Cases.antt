@@ -1,5 +1,4 @@
 -- Titled cases: what is found and what is to be found, and that all of them pass.
-use Rattle.std.specs.Prelude.{if◌then◌else◌}
 use mathlib.Core.Path.{◌≡◌, refl, ap₂}
 use mathlib.Core.Bool.{Bool, true, false, ◌&&◌}
 use mathlib.Core.List.{List, [], ◌∷◌, map}
@@ -7,6 +6,7 @@ use Prim.Native.Nat.{ℕ}
 use Prim.Native.String.{String}
 use borrow.Author.Tests.{eqb-true}
 use lib.Dec.{eqb}
+use Rattle.words.specs.Words.{ByTest}
 use Rattle.words.proofs.Laws.{true_or_false, not_both, and_left, and_right}
 
 pub record Case : Type 0 where
@@ -29,7 +29,7 @@ pub data Fails (title : String) : Type 0 where
 -- the first case that fails is named
 abbrev pub Pass : List Case → Type 0
 Pass [] = Unit {0}
-Pass (c ∷ cs) = if same c.found c.expected then Pass cs else Fails c.title
+Pass (c ∷ cs) = ByTest (same c.found c.expected) (Pass cs) (Fails c.title)
 
 fails_not : {A : Type 0} {title : String} → Fails title → A
 fails_not = elim [ ]

@@ -11,6 +11,7 @@ use borrow.Author.Tests.{eqb-true}
 use lib.Dec.{eqb}
 use lib.ListN.{length, get_or, drop, replicate}
 use lib.Seq.{take-append_seam}
+use Rattle.words.specs.Words.{ByTest}
 use Rattle.telnet.specs.declared.Phase.{Phase}
 use Rattle.telnet.specs.declared.Phase.TheVariants.{Rest, Iac, Negotiating, Opening, OpeningIac, Inside, InsideIac}
 use Rattle.telnet.specs.declared.Verb.{Verb}
@@ -241,7 +242,7 @@ all_equal (x ∷ xs) (y ∷ ys) e = ap₂ ◌∷◌ (brief_equal x y (and_left _
 fails_not : {A : Type 0} {title : String} → Fails title → A
 fails_not = elim [ ]
 
-told_stated : (c : Case) → (if same_all (told c) (stated c) then Unit {0} else Fails (title_of c)) → told c ≡ stated c
+told_stated : (c : Case) → ByTest (same_all (told c) (stated c)) (Unit {0}) (Fails (title_of c)) → told c ≡ stated c
 told_stated c p =
     true_or_false (same_all (told c) (stated c)) (λ e. all_equal _ _ e)
     (λ e. let q : Fails (title_of c) = rw e at p in fails_not q)
@@ -300,7 +301,7 @@ case_tell : (c : Case) → observed_of c ≡ full_of c (told c)
 case_tell (case title s ts) = trials_tell s ts
 case_tell (opening title m n named b refusal s) = ap (λ o. o ∷ []) (open_tell m n named b)
 
-case_equal : (c : Case) → (if same_all (told c) (stated c) then Unit {0} else Fails (title_of c)) → observed_of c ≡ full_of c (stated c)
+case_equal : (c : Case) → ByTest (same_all (told c) (stated c)) (Unit {0}) (Fails (title_of c)) → observed_of c ≡ full_of c (stated c)
 case_equal c p = case_tell c ∙ ap (full_of c) (told_stated c p)
 
 pub each_equal : (cs : List Case) → Passes cs → observed cs ≡ expected cs

@@ -1,6 +1,11 @@
 -- Tests on numbers and their bits, and a list given by its elements.
 use Rattle.std.specs.Prelude.{Bool, true, false, not, ◌&&◌, List, [], ◌∷◌, ℕ, zero, suc, ◌/◌, ◌%◌, eqb, leb}
 
+-- one of two facts, by a test
+abbrev pub ByTest : Bool → Type 0 → Type 0 → Type 0
+ByTest true P Q = P
+ByTest false P Q = Q
+
 -- from lo to hi, both included
 abbrev pub between : ℕ → ℕ → ℕ → Bool
 between lo hi n = leb lo n && leb n hi

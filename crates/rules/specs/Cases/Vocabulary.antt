@@ -3,6 +3,7 @@ use Rattle.std.specs.Prelude.{◌≡◌, Bool, true, false, ◌&&◌, List, [], 
 use Prim.Native.Char.{code}
 use Prim.Native.String.{String}
 use Prim.Native.String as string
+use Rattle.words.specs.Words.{ByTest}
 use Rattle.telnet.specs.declared.Phase.{Phase}
 use Rattle.telnet.specs.declared.Phase.TheVariants.{Rest, Iac, Negotiating, Opening, OpeningIac, Inside, InsideIac}
 use Rattle.telnet.specs.Reader.{verb_code}
@@ -212,7 +213,7 @@ pub data Fails (title : String) : Type 0 where
 
 abbrev pub Passes : List Case → Type 0
 Passes [] = Unit {0}
-Passes (c ∷ cs) = (if same_all (told c) (stated c) then Unit {0} else Fails (title_of c)) × Passes cs
+Passes (c ∷ cs) = ByTest (same_all (told c) (stated c)) (Unit {0}) (Fails (title_of c)) × Passes cs
 
 -- the numbers below n that fail a test
 unfoldable pub failures : (ℕ → Bool) → ℕ → List ℕ

@@ -168,8 +168,8 @@ pub fn place_parameters(held: Held) -> Place
 
 // FORMAT DATA's count of two bytes, high first.
 pub fn format_count(held: Held) -> usize
-    ensures value { result ≡ format_count held }
-    ensures upper_bound { result < 65536 }
+    ensures counted { result ≡ format_count held }
+    ensures few { result < 65536 }
 {
     parameter(held, 2) as usize * 256 + parameter(held, 3) as usize
 }

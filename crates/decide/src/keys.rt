@@ -97,7 +97,7 @@ pub fn refuse_pressed(frame: Frame, attrs: &[u8], key: Key) -> Refusal
 #[tactic(auto, using(crate::proofs::DecideLaws::decides, crate::proofs::WriteLaws::typed), unfolding(rules::specs::Key::pressed))]
 fn type_in(frame: Frame, attrs: &[u8], byte: u8) -> Decision
     requires fits { Fits (seen frame attrs.now) }
-    requires byte_value { verdict (key_tests (seen frame attrs.now) (Key.Typed byte)) ≡ Refusal.Taken }
+    requires not_refused { verdict (key_tests (seen frame attrs.now) (Key.Typed byte)) ≡ Refusal.Taken }
     ensures { Decides (seen frame attrs.now) result (λ v. pressed v (Key.Typed byte)) }
 {
     let writing = write(frame, attrs, Writer::Operator, byte);
@@ -116,7 +116,7 @@ fn type_in(frame: Frame, attrs: &[u8], byte: u8) -> Decision
 #[tactic(auto, using(crate::proofs::DecideLaws::decides), unfolding(rules::specs::Key::pressed))]
 fn press_taken(frame: Frame, attrs: &[u8], key: Key) -> Decision
     requires fits { Fits (seen frame attrs.now) }
-    requires key_value { verdict (key_tests (seen frame attrs.now) key) ≡ Refusal.Taken }
+    requires not_refused { verdict (key_tests (seen frame attrs.now) key) ≡ Refusal.Taken }
     ensures { Decides (seen frame attrs.now) result (λ v. pressed v key) }
 {
     match key {

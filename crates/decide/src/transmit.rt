@@ -84,7 +84,7 @@ pub(crate) fn send_modified(frame: Frame, attrs: &[u8]) -> Decision
 #[tactic(auto, using(screen::proofs::FieldLaws::end_le, crate::proofs::DecideLaws::cursor_lt, crate::proofs::ObeyLaws::field_after))]
 fn send_field(frame: Frame, attrs: &[u8], from: usize) -> Decision
     requires fits { Fits (seen frame attrs.now) }
-    requires from_bound { from ≤ cell_of frame.width frame.cursor }
+    requires up_to_cursor { from ≤ cell_of frame.width frame.cursor }
     ensures { Decides (seen frame attrs.now) result (λ v. field_from v from) }
 {
     let guarded = cursor_guarded(frame, attrs);

@@ -156,8 +156,8 @@ fn take_meaning(
     marks: &mut [u8],
     reply: &mut [u8],
 ) -> Answer
-    requires code_value { key_refusal (state session (lent chars.old attrs.now marks.old)) reply.old code ≡ Refusal.Taken }
-    requires code_value_2 { takes_key session.frame code ≡ false }
+    requires not_refused { key_refusal (state session (lent chars.old attrs.now marks.old)) reply.old code ≡ Refusal.Taken }
+    requires line_leaves { takes_key session.frame code ≡ false }
     ensures { outcome result (lent chars.new attrs.now marks.new) reply.new
         ≡ key_taken (state session (lent chars.old attrs.now marks.old)) reply.old code }
 {
@@ -188,8 +188,8 @@ fn take_line(
     marks: &[u8],
     reply: &mut [u8],
 ) -> Answer
-    requires code_value { key_refusal (state session (lent chars.old attrs.now marks.now)) reply.old code ≡ Refusal.Taken }
-    requires code_value_2 { takes_key session.frame code ≡ true }
+    requires not_refused { key_refusal (state session (lent chars.old attrs.now marks.now)) reply.old code ≡ Refusal.Taken }
+    requires line_takes { takes_key session.frame code ≡ true }
     ensures { outcome result (lent chars.new attrs.now marks.now) reply.new
         ≡ key_taken (state session (lent chars.old attrs.now marks.now)) reply.old code }
 {

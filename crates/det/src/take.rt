@@ -119,8 +119,8 @@ fn told_byte(reader: Reader, byte: u8, next: usize) -> Told
 // A whole subnegotiation tells its end, but one of option 30 goes a byte at a time; any other byte is asked of the reader.
 #[tactic(auto, using(telnet::proofs::AheadLaws::ahead_stands, crate::proofs::QuietLaws::told_whole, crate::proofs::QuietLaws::told_next))]
 fn told_at(reader: Reader, input: &[u8], from: usize) -> Told
-    requires phase_value { in_message reader.phase ≡ false }
-    requires from_in_bounds { from < length input.now }
+    requires outside_message { in_message reader.phase ≡ false }
+    requires more { from < length input.now }
     ensures { Tells reader input.now from result }
 {
     let phase = reader.phase;
@@ -165,9 +165,9 @@ fn take_told(
     at: usize,
 ) -> Turn
     requires accepts_turn { AcceptsTurn frame reader lf (lent chars.old attrs.old marks.old) reply.old at }
-    requires phase_value { in_message reader.phase ≡ false }
-    requires from_in_bounds { from < length input.now }
-    ensures from_lt_end { from < result.end }
+    requires outside_message { in_message reader.phase ≡ false }
+    requires more { from < length input.now }
+    ensures onward { from < result.end }
     ensures turns { Turns frame reader lf (lent chars.old attrs.old marks.old) input.now from
         reply.old at result (lent chars.new attrs.new marks.new) reply.new }
 {
@@ -200,8 +200,8 @@ fn take_text(
     attrs: &[u8],
     at: usize,
 ) -> Turn
-    requires phase_value { reader.phase ≡ Rest }
-    requires from_in_bounds { from < length input.now }
+    requires at_rest { reader.phase ≡ Rest }
+    requires more { from < length input.now }
     ensures { (marks : List ℕ) → QuietTurns frame reader lf (screen chars.old attrs.now marks)
         input.now from at result (screen chars.new attrs.now marks) }
 {
@@ -234,9 +234,9 @@ fn take_payload(
     from: usize,
     at: usize,
 ) -> Turn
-    requires phase_value { reader.phase ≡ Inside option }
-    requires phase_value_2 { in_message reader.phase ≡ false }
-    requires from_in_bounds { from < length input.now }
+    requires inside { reader.phase ≡ Inside option }
+    requires outside_message { in_message reader.phase ≡ false }
+    requires more { from < length input.now }
     ensures { (lf : Bool) (b : Screen) → QuietTurns frame reader lf b input.now from at result b }
 {
     let stretch = payload_at(option, input, from);
@@ -269,8 +269,8 @@ fn take_stretch(
     attrs: &[u8],
     at: usize,
 ) -> Turn
-    requires phase_value { in_message reader.phase ≡ false }
-    requires from_in_bounds { from < length input.now }
+    requires outside_message { in_message reader.phase ≡ false }
+    requires more { from < length input.now }
     ensures { (marks : List ℕ) → QuietTurns frame reader lf (screen chars.old attrs.now marks)
         input.now from at result (screen chars.new attrs.now marks) }
 {
@@ -303,9 +303,9 @@ pub(crate) fn take_turn(
     at: usize,
 ) -> Turn
     requires accepts_turn { AcceptsTurn frame reader lf (lent chars.old attrs.old marks.old) reply.old at }
-    requires phase_value { in_message reader.phase ≡ false }
-    requires from_in_bounds { from < length input.now }
-    ensures from_lt_end { from < result.end }
+    requires outside_message { in_message reader.phase ≡ false }
+    requires more { from < length input.now }
+    ensures onward { from < result.end }
     ensures turns { Turns frame reader lf (lent chars.old attrs.old marks.old) input.now from
         reply.old at result (lent chars.new attrs.new marks.new) reply.new }
 {

@@ -83,8 +83,8 @@ pub(crate) fn are_singles(
 
 // A separator and one character.
 fn put_single(chars: &[u8], reply: &mut [u8], cell: usize, at: usize, code: u8) -> usize
-    requires cell_in_bounds { (cell < length chars.now) × (at + 7 ≤ length reply.old) }
-    requires code_value { eqb code 255 ≡ false }
+    requires room { (cell < length chars.now) × (at + 7 ≤ length reply.old) }
+    requires not_iac { eqb code 255 ≡ false }
     ensures { (result ≡ at + 7) × Wrote reply.old at
         (separator_pieces code false ++ (text_piece cell (cell + 1) chars.now ∷ [])) reply.new result }
 {
@@ -94,8 +94,8 @@ fn put_single(chars: &[u8], reply: &mut [u8], cell: usize, at: usize, code: u8) 
 // The thirty-two fields from the cell on.
 #[tactic(auto, using(crate::proofs::SingleLaws::ones_start, crate::proofs::SingleLaws::ones_length, crate::proofs::SingleLaws::ones_more))]
 pub(crate) fn put_singles(chars: &[u8], reply: &mut [u8], cell: usize, at: usize, code: u8) -> usize
-    requires cell_in_bounds { (cell + 32 ≤ length chars.now) × (at + 224 ≤ length reply.old) }
-    requires code_value { eqb code 255 ≡ false }
+    requires room { (cell + 32 ≤ length chars.now) × (at + 224 ≤ length reply.old) }
+    requires not_iac { eqb code 255 ≡ false }
     ensures { Wrote reply.old at (single_pieces code chars.now cell 32) reply.new result }
 {
     let mut next = at;

@@ -71,7 +71,7 @@ fn one(progress: Progress, input: &[u8]) -> Progress
 // At rest: the data up to the next IAC, and that IAC.
 #[tactic(auto, using(crate::proofs::Laws::stretch_lies_here, crate::proofs::Laws::data_further))]
 fn data_stretch(progress: Progress, input: &[u8]) -> Progress
-    requires phase_value { progress.phase ≡ Rest }
+    requires at_rest { progress.phase ≡ Rest }
     requires counting { Counting input.now progress × (progress.at < length input.now) }
     ensures { Further input.now progress result }
 {
@@ -90,7 +90,7 @@ fn data_stretch(progress: Progress, input: &[u8]) -> Progress
 // In the subnegotiation of this option: its payload up to the next IAC, and that IAC.
 #[tactic(auto, using(crate::proofs::Laws::stretch_lies_here, crate::proofs::Laws::payload_further))]
 fn payload_stretch(option: u8, progress: Progress, input: &[u8]) -> Progress
-    requires phase_value { progress.phase ≡ Inside option }
+    requires inside { progress.phase ≡ Inside option }
     requires counting { Counting input.now progress × (progress.at < length input.now) }
     ensures { Further input.now progress result }
 {
@@ -136,7 +136,7 @@ fn sub_ahead(progress: Progress, input: &[u8]) -> Progress
 
 // At rest: the data up to the next IAC, that IAC, and the subnegotiation after it if it is whole.
 fn from_rest(progress: Progress, input: &[u8]) -> Progress
-    requires phase_value { progress.phase ≡ Rest }
+    requires at_rest { progress.phase ≡ Rest }
     requires counting { Counting input.now progress × (progress.at < length input.now) }
     ensures { Further input.now progress result }
 {

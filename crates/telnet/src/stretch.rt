@@ -60,8 +60,8 @@ fn skip_data(input: &[u8], from: usize) -> usize
 #[tactic(auto, using(crate::proofs::StretchLaws::end_hit, crate::proofs::StretchLaws::end_next))]
 fn in_eight(input: &[u8], from: usize) -> usize
     requires { from + 8 ≤ length input.now }
-    ensures upper_bound { (result ≤ 8) × (data_end input.now from ≡ data_end input.now (from + result)) }
-    ensures from_value { result < 8 → data_end input.now from ≡ from + result }
+    ensures passed { (result ≤ 8) × (data_end input.now from ≡ data_end input.now (from + result)) }
+    ensures hit { result < 8 → data_end input.now from ≡ from + result }
 {
     let mut i = 0;
     while i < 8 {

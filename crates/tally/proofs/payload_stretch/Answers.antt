@@ -4,4 +4,4 @@ use Rattle.tally.proofs.payload_stretch.Goals as goal
 
 pub returns : goal.returns
 returns c =
-    payload_further c.requires.counting.0 c.requires.counting.1 _ c.requires.phase_value c.payload_at-stretch.ensures _ refl
+    payload_further c.requires.counting.0 c.requires.counting.1 _ c.requires.inside c.payload_at-stretch.ensures _ refl

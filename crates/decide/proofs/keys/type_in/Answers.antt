@@ -8,4 +8,4 @@ pub returns : goal.returns
 unfolding pressed
 returns c =
     decides c.editing.ensures tt
-    (rw (c.moved.ensures, typed c.write-writing.ensures c.requires.byte_value, c.cursor_cell-cell.ensures))
+    (rw (c.moved.ensures, typed c.write-writing.ensures c.requires.not_refused, c.cursor_cell-cell.ensures))

@@ -3,5 +3,5 @@ use Rattle.det.proofs.operation.take_line.Goals as goal
 
 pub returns : goal.returns
 returns c =
-    line_settled _ _ _ c.requires.code_value c.requires.code_value_2 c.send_line-written.ensures c.echo_key-frame.ensures
+    line_settled _ _ _ c.requires.not_refused c.requires.line_takes c.send_line-written.ensures c.echo_key-frame.ensures
     c.type_key.ensures

@@ -4,5 +4,5 @@ use Rattle.det.proofs.take.take_payload.Goals as goal
 
 pub returns : goal.returns
 returns c lf b p prints =
-    payload_turn c.requires.from_in_bounds _ c.payload_at-stretch.ensures _ _ c.requires.phase_value refl
-    (inside_other c.requires.phase_value c.requires.phase_value_2) c.hold_all-after.ensures
+    payload_turn c.requires.more _ c.payload_at-stretch.ensures _ _ c.requires.inside refl
+    (inside_other c.requires.inside c.requires.outside_message) c.hold_all-after.ensures

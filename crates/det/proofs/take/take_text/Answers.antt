@@ -5,5 +5,5 @@ use Rattle.det.proofs.take.take_text.Goals as goal
 pub returns : goal.returns
 returns c marks p prints =
     let done = c.take_bytes-done.ensures in
-    text_turn c.requires.from_in_bounds _ c.data_at-stretch.ensures _ c.requires.phase_value refl _ (joins_by c.args.frame p prints)
+    text_turn c.requires.more _ c.data_at-stretch.ensures _ c.requires.at_rest refl _ (joins_by c.args.frame p prints)
     done.done done.ends

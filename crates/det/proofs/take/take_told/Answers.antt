@@ -4,8 +4,8 @@ use Rattle.det.proofs.take.take_told.Goals as goal
 pub happen-done-requires : goal.happen-done-requires
 happen-done-requires c = told_answerable _ _ _ _ _ _ c.told_at-told.ensures c.requires.accepts_turn
 
-pub returns-clause-from_lt_end : goal.returns-clause-from_lt_end
-returns-clause-from_lt_end c = (told_turns _ _ _ _ _ _ c.told_at-told.ensures c.happen-done.ensures).0
+pub returns-clause-onward : goal.returns-clause-onward
+returns-clause-onward c = (told_turns _ _ _ _ _ _ c.told_at-told.ensures c.happen-done.ensures).0
 
 pub returns-clause-turns : goal.returns-clause-turns
 returns-clause-turns c = (told_turns _ _ _ _ _ _ c.told_at-told.ensures c.happen-done.ensures).1

@@ -9,12 +9,12 @@ pub take_told-requires-clause-accepts_turn : goal.take_told-requires-clause-acce
 take_told-requires-clause-accepts_turn c =
     stretch_accepts c.args.reply.now (c.take_stretch-stretch.ensures c.args.marks.now) c.requires.accepts_turn
 
-pub take_told-requires-clause-phase_value : goal.take_told-requires-clause-phase_value
-take_told-requires-clause-phase_value c = stretch_outside c.args.reply.now (c.take_stretch-stretch.ensures c.args.marks.now)
+pub take_told-requires-clause-outside_message : goal.take_told-requires-clause-outside_message
+take_told-requires-clause-outside_message c = stretch_outside c.args.reply.now (c.take_stretch-stretch.ensures c.args.marks.now)
 
-pub returns-clause-from_lt_end : goal.returns-clause-from_lt_end
-returns-clause-from_lt_end c =
-    omega (arith, stretch_onward c.args.reply.now (c.take_stretch-stretch.ensures c.args.marks.now), c.take_told.ensures.from_lt_end)
+pub returns-clause-onward : goal.returns-clause-onward
+returns-clause-onward c =
+    omega (arith, stretch_onward c.args.reply.now (c.take_stretch-stretch.ensures c.args.marks.now), c.take_told.ensures.onward)
 
 pub returns-clause-turns : goal.returns-clause-turns
 returns-clause-turns c = then_turns _ (c.take_stretch-stretch.ensures c.args.marks.now) _ c.take_told.ensures.turns

@@ -7,17 +7,17 @@ pub loop-i-init : goal.loop-i-init
 loop-i-init c = sent_none
 
 pub put_character-at-requires : goal.put_character-at-requires
-put_character-at-requires c = omega (arith, sent_room c.loop-i.invariant, c.length-n.ensures.upper_bound)
+put_character-at-requires c = omega (arith, sent_room c.loop-i.invariant, c.length-n.ensures.few)
 
 pub loop-i-preserved : goal.loop-i-preserved
 loop-i-preserved c =
-    sent_more c.loop-i.invariant (omega (arith, c.length-n.ensures.value)) c.at.ensures c.put_character-at.ensures
+    sent_more c.loop-i.invariant (omega (arith, c.length-n.ensures.counted)) c.at.ensures c.put_character-at.ensures
 
 pub put_character-requires : goal.put_character-requires
 put_character-requires c =
-    omega (arith, sent_room c.loop-i.invariant, c.loop-i.invariant.within, c.length-n.ensures.value, c.length-n.ensures.upper_bound)
+    omega (arith, sent_room c.loop-i.invariant, c.loop-i.invariant.within, c.length-n.ensures.counted, c.length-n.ensures.few)
 
 pub returns : goal.returns
 returns c =
     rw (← all_sent_last)
-    (emitted_then (sent_all c.loop-i.invariant (omega (arith, c.length-n.ensures.value))) c.put_character.ensures)
+    (emitted_then (sent_all c.loop-i.invariant (omega (arith, c.length-n.ensures.counted))) c.put_character.ensures)

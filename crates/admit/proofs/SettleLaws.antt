@@ -63,3 +63,6 @@ module _ (m n named : ℕ) (b : Screen) {why : Refusal} (e : why ≡ verdict (op
     open_done p c q k =
         settled_done _ _ _ e t
         (rw (p, c, q, k, all_spaces b.attrs b.chars, all_zeros b.attrs, all_zeros b.marks, open_sizes.2, open_sizes.3, open_sizes.4))
+
+-- a call that is refused, and one that is done
+pub ruleset settled = (settled_refused, settled_done)

@@ -71,7 +71,7 @@ pub fn refused(session: Session, refusal: Refusal) -> Answer
 
 // A fresh session of these sizes and the edition that is named, a space in every cell, every attribute byte 0 and no mark. The numbers
 // are wide, so that nothing a caller passes is cut off.
-#[tactic(auto, using(command::proofs::RefusalLaws::not_taken, crate::proofs::SettleLaws::open_refused, crate::proofs::SettleLaws::open_sizes, crate::proofs::SettleLaws::open_done))]
+#[tactic(auto, using(crate::proofs::SettleLaws::open_refused, crate::proofs::SettleLaws::open_sizes, crate::proofs::SettleLaws::open_done))]
 pub fn open(
     width: usize,
     height: usize,

@@ -49,7 +49,7 @@ fn greater(a: u8, b: u8) -> u8
 }
 
 // By the least and the greatest character. The loop has one way out, so that the compiler takes sixteen characters at a time.
-#[tactic(auto, using(crate::proofs::RefuseLaws::and_true, crate::proofs::RefuseLaws::text_on), unfolding(rules::specs::Session::all_printable))]
+#[tactic(auto, unfolding(rules::specs::Session::all_printable))]
 fn all_printable(chars: &[u8]) -> bool
     ensures { result ≡ all_printable chars.now }
 {
@@ -65,7 +65,7 @@ fn all_printable(chars: &[u8]) -> bool
 }
 
 // Each mark is 0 or 1, by the greatest of them.
-#[tactic(auto, using(crate::proofs::RefuseLaws::and_true, crate::proofs::RefuseLaws::marks_on), unfolding(rules::specs::Session::all_marks))]
+#[tactic(auto, unfolding(rules::specs::Session::all_marks))]
 fn all_marks(marks: &[u8]) -> bool
     ensures { result ≡ all_marks marks.now }
 {
@@ -154,7 +154,7 @@ fn lengths_ok(cells: usize, chars: &[u8], attrs: &[u8], marks: &[u8]) -> bool
 }
 
 // Refusals 1, 12 and 2, all that open has.
-#[tactic(auto, using(screen::proofs::TestLaws::failing, screen::proofs::TestLaws::passing, crate::proofs::RefuseLaws::few), unfolding(rules::specs::Refusal::verdict, rules::specs::Refusal::open_tests))]
+#[tactic(auto, unfolding(rules::specs::Refusal::verdict, rules::specs::Refusal::open_tests))]
 pub(crate) fn refuse_open(
     m: usize,
     n: usize,
@@ -182,7 +182,7 @@ pub(crate) fn refuse_open(
 }
 
 // Refusals 1 and 2, of a session.
-#[tactic(auto, using(screen::proofs::TestLaws::failing, screen::proofs::TestLaws::passing, crate::proofs::RefuseLaws::few), unfolding(rules::specs::Refusal::verdict, rules::specs::Refusal::size_tests))]
+#[tactic(auto, unfolding(rules::specs::Refusal::verdict, rules::specs::Refusal::size_tests))]
 fn refuse_sizes(frame: Frame, chars: &[u8], attrs: &[u8], marks: &[u8]) -> Refusal
     ensures { result ≡ verdict (size_tests frame (lent chars.now attrs.now marks.now)) }
 {
@@ -200,7 +200,7 @@ fn refuse_sizes(frame: Frame, chars: &[u8], attrs: &[u8], marks: &[u8]) -> Refus
 }
 
 // Refusals 3, 4, 11 and 5.
-#[tactic(auto, using(screen::proofs::TestLaws::failing, screen::proofs::TestLaws::passing), unfolding(rules::specs::Refusal::verdict, rules::specs::Refusal::state_tests))]
+#[tactic(auto, unfolding(rules::specs::Refusal::verdict, rules::specs::Refusal::state_tests))]
 fn refuse_state(session: Session, chars: &[u8], marks: &[u8], reply: &[u8]) -> Refusal
     ensures { (attrs : List ℕ)
         → result ≡ verdict (state_tests session (screen chars.now attrs marks.now) reply.now) }
@@ -224,7 +224,6 @@ fn refuse_state(session: Session, chars: &[u8], marks: &[u8], reply: &[u8]) -> R
 }
 
 // Refusals 1 to 5 and 11, of host bytes and of a key.
-#[tactic(auto, using(crate::proofs::RefuseLaws::passed_on, crate::proofs::RefuseLaws::failed_first, command::proofs::RefusalLaws::not_taken), unfolding(rules::specs::Refusal::size_tests))]
 pub fn refuse(session: Session, chars: &[u8], attrs: &[u8], marks: &[u8], reply: &[u8]) -> Refusal
     ensures { result ≡ host_refusal (state session (lent chars.now attrs.now marks.now)) reply.now }
 {

@@ -116,7 +116,6 @@ fn array_of(edition: Edition) -> usize
     }
 }
 
-#[tactic(auto, using(crate::proofs::CodeLaws::array_below, crate::proofs::CodeLaws::table_at), unfolding(rules::specs::Edition::meant_by, crate::specs::Inner::Codes::entry_of, crate::specs::Inner::Codes::entries_from))]
 fn entry_of(edition: Edition, code: u8) -> Entry
     requires { code < 42 }
     ensures { result ≡ entry_of edition code }
@@ -137,7 +136,7 @@ pub fn command_of(edition: Edition, code: u8) -> Code
 }
 
 // A command that the edition has is meant by its own number, or else by the one below.
-#[tactic(auto, using(crate::proofs::CodeLaws::in_table, crate::proofs::CodeLaws::below_42, crate::proofs::CodeLaws::code_here, crate::proofs::CodeLaws::code_below))]
+#[tactic(auto, using(crate::proofs::CodeLaws::in_table, crate::proofs::CodeLaws::code_here, crate::proofs::CodeLaws::code_below))]
 pub(crate) fn code_of(edition: Edition, command: u8) -> u8
     requires { holds edition command ≡ true }
     ensures { result ≡ code_for edition command }

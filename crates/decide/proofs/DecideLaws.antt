@@ -76,3 +76,6 @@ module _ {v : View} where
     pub fits_rule : Fits v → Decides v d (where_fits rule) → Decides v d rule
     unfolding where_fits
     fits_rule h by = recast by (rw (found_fits h))
+
+-- a decision where the frame fits, and where it does not
+pub ruleset by_fit = (fits_found, where_fits_lem, where_not)

@@ -13,7 +13,7 @@ use Rattle.screen.specs.Cells.{line_end}
 use Rattle.screen.specs.Fields.{field_end}
 use Rattle.words.proofs.Laws.{either}
 use Rattle.screen.proofs.CellLaws.{line_within}
-use Rattle.screen.proofs.FieldLaws.{end_gt}
+use Rattle.screen.proofs.FieldLaws.{end_gt, start_le}
 use Rattle.rules.specs.declared.Command.{Command}
 use Rattle.rules.specs.declared.Governor.{Governor}
 use Rattle.rules.specs.declared.Code.{Code}
@@ -177,3 +177,15 @@ pub looked_unknown : {v : View} {d : Decision} (held : Held) (l : Listed) → Un
 unfolding meaning looked
 looked_unknown held (listed r) e by = absurd (unknown (sym e))
 looked_unknown held unlisted e by = by
+
+-- where a destination is on the screen
+pub ruleset destinations = (origin_lt, home_lt, back_tab_lt, first_field_lt, next_field_lt, previous_open_lt)
+
+-- what a command draws, by its fault
+pub ruleset judging = (recast, judged_by, errs)
+
+-- a code that is known, and one that is not
+pub ruleset looking = (recast, looked_known, looked_unknown)
+
+-- where a transmission begins
+pub ruleset sending = (start_le, recast, cursor_in, line_in)

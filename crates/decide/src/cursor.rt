@@ -186,7 +186,7 @@ fn back_tab_cell(frame: Frame, attrs: &[u8]) -> usize
     last(attrs, Target::UnprotectedStart, cursor_cell(frame), 0)
 }
 
-#[tactic(auto, unfolding(screen::specs::Scans::is_target, rules::specs::Cursor::first_field_cell))]
+#[tactic(auto, unfolding(screen::specs::Scans::is_target, rules::specs::Cursor::first_field_cell, rules::specs::Cursor::next_field_cell))]
 fn first_field_cell(frame: Frame, attrs: &[u8], none: usize) -> usize
     ensures { result ≡ first_field_cell (seen frame attrs.now) none }
 {
@@ -220,7 +220,7 @@ pub(crate) fn next_open_place(frame: Frame, attrs: &[u8]) -> Place
 }
 
 // Any of them.
-#[tactic(auto, using(crate::proofs::ObeyLaws::origin_lt, crate::proofs::ObeyLaws::home_lt, crate::proofs::ObeyLaws::back_tab_lt, crate::proofs::ObeyLaws::first_field_lt, crate::proofs::ObeyLaws::next_field_lt, crate::proofs::ObeyLaws::previous_open_lt), unfolding(rules::specs::Cursor::destination))]
+#[tactic(auto, using(crate::proofs::ObeyLaws::destinations), unfolding(rules::specs::Cursor::destination))]
 pub(crate) fn destination(frame: Frame, attrs: &[u8], to: Destination) -> Place
     requires { Fits (seen frame attrs.now) }
     ensures { result ≡ destination (seen frame attrs.now) to }

@@ -140,7 +140,6 @@ fn press_taken(frame: Frame, attrs: &[u8], key: Key) -> Decision
 }
 
 // What a key does. Nothing is done where it is refused, nor where the cursor is off the screen or the attribute bytes are not the screen's.
-#[tactic(auto, using(crate::proofs::DecideLaws::fits_found, crate::proofs::DecideLaws::where_fits_lem, crate::proofs::DecideLaws::where_not, command::proofs::RefusalLaws::not_taken, crate::proofs::WriteLaws::pressed_not, crate::proofs::WriteLaws::pressed_taken))]
 pub fn press(frame: Frame, attrs: &[u8], key: Key) -> Decision
     ensures { Decides (seen frame attrs.now) result (where_fits (λ v. pressed_if_taken v key)) }
 {

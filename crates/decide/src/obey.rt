@@ -194,7 +194,7 @@ fn err(frame: Frame, code: u8, fault: Fault) -> Decision
 }
 
 // A known command: obeyed, or an ERROR, which MOVE CURSOR draws after it has limited.
-#[tactic(auto, using(crate::proofs::DecideLaws::recast, crate::proofs::ObeyLaws::judged_by, crate::proofs::ObeyLaws::errs), unfolding(rules::specs::Subcommand::judged))]
+#[tactic(auto, using(crate::proofs::ObeyLaws::judging), unfolding(rules::specs::Subcommand::judged))]
 fn judge(
     frame: Frame,
     attrs: &[u8],
@@ -216,7 +216,7 @@ fn judge(
 }
 
 // A subnegotiation of option 20 that ended while DET is on, with these bytes held.
-#[tactic(auto, using(crate::proofs::DecideLaws::recast, crate::proofs::ObeyLaws::looked_known, crate::proofs::ObeyLaws::looked_unknown), unfolding(rules::specs::Subcommand::subcommand))]
+#[tactic(auto, using(crate::proofs::ObeyLaws::looking), unfolding(rules::specs::Subcommand::subcommand))]
 fn obey_held(frame: Frame, attrs: &[u8], held: Held) -> Decision
     requires { Fits (seen frame attrs.now) }
     ensures { Decides (seen frame attrs.now) result (λ v. subcommand v held) }
@@ -254,7 +254,7 @@ fn end_fitting(frame: Frame, attrs: &[u8], held: Held, option: u8) -> Decision
 }
 
 // The same of any frame: nothing is done where the cursor is off the screen or the attribute bytes are not the screen's.
-#[tactic(auto, using(crate::proofs::DecideLaws::fits_found, crate::proofs::DecideLaws::where_fits_lem, crate::proofs::DecideLaws::where_not))]
+#[tactic(auto, using(crate::proofs::DecideLaws::by_fit))]
 pub fn decide_end(frame: Frame, attrs: &[u8], held: Held, option: u8) -> Decision
     ensures { Decides (seen frame attrs.now) result (where_fits (λ v. ended_det v held option)) }
 {

@@ -114,7 +114,7 @@ pub fn write_host(frame: Frame, attrs: &[u8], byte: u8) -> Writing
 }
 
 // Host data that is no character: CR, LF and BS move the cursor, any other byte does nothing. The cursor after it.
-#[tactic(auto, using(words::proofs::Laws::true_or_false), unfolding(crate::specs::Writing::control_of, rules::specs::Telnet::host_data, rules::specs::Cursor::destination))]
+#[tactic(auto, unfolding(crate::specs::Writing::control_of, rules::specs::Telnet::host_data, rules::specs::Cursor::destination))]
 pub fn control(frame: Frame, byte: u8) -> Place
     ensures { (attrs : List ℕ) → control_of (view frame attrs) byte ≡ quiet (view (placed frame result) attrs) }
 {

@@ -29,7 +29,7 @@ fn send(frame: Frame, place: Place, from: usize, end: usize) -> Decision
 }
 
 // 20: the cursor goes to the corner, which is also the first cell sent.
-#[tactic(auto, unfolding(rules::specs::Subcommand::transmitted))]
+#[tactic(auto, unfolding(rules::specs::Cursor::destination, rules::specs::Subcommand::transmitted))]
 fn send_screen(frame: Frame, attrs: &[u8]) -> Decision
     requires { Fits (seen frame attrs.now) }
     ensures { Decides (seen frame attrs.now) result (λ v. transmitted v Area.WholeScreen) }
@@ -100,7 +100,7 @@ fn send_field(frame: Frame, attrs: &[u8], from: usize) -> Decision
     )
 }
 
-#[tactic(auto, using(screen::proofs::FieldLaws::start_le, crate::proofs::DecideLaws::recast, crate::proofs::ObeyLaws::cursor_in, crate::proofs::ObeyLaws::line_in), unfolding(rules::specs::Subcommand::transmitted))]
+#[tactic(auto, using(crate::proofs::ObeyLaws::sending), unfolding(rules::specs::Subcommand::transmitted))]
 pub(crate) fn transmit(frame: Frame, attrs: &[u8], area: Area) -> Decision
     requires { Fits (seen frame attrs.now) }
     ensures { Decides (seen frame attrs.now) result (λ v. transmitted v area) }

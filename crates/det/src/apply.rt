@@ -48,7 +48,7 @@ fn change_cells(edit: Edit, chars: &mut [u8], attrs: &[u8])
 }
 
 // 37: a host character so many times.
-#[tactic(auto, using(crate::proofs::ApplyLaws::repeating_start, crate::proofs::ApplyLaws::repeating_more, crate::proofs::ApplyLaws::repeating_end))]
+#[tactic(auto, using(crate::proofs::ApplyLaws::repeating_more, crate::proofs::ApplyLaws::repeating_end))]
 fn repeat(frame: Frame, count: u8, byte: u8, chars: &mut [u8], attrs: &[u8]) -> Frame
     ensures { Changes (edited (seen frame attrs.now) (Edit.Repeat count byte))
         chars.old attrs.now result chars.new }
@@ -85,7 +85,7 @@ fn format_attrs(change: Format, attrs: &mut [u8])
 }
 
 // A typed character and a shift mark the cells that they write.
-#[tactic(auto, using(edit::proofs::EditLaws::filled_one, crate::proofs::ApplyLaws::marks_none), unfolding(rules::specs::Effect::marks_after))]
+#[tactic(auto, using(edit::proofs::EditLaws::filled_one), unfolding(rules::specs::Effect::marks_after))]
 fn mark_edited(edit: Edit, marks: &mut [u8])
     ensures { marks.new ≡ marks_after marks.old (marking_of edit) }
 {

@@ -35,7 +35,6 @@ fn in_message(phase: Phase) -> bool
 }
 
 // Host bytes that are not refused: taken from the front while there are any and the reply buffer has room for one more reply.
-#[tactic(auto, using(rules::proofs::Running::taken_end, rules::proofs::Running::taken_full, local::proofs::ToldLaws::other_clears, crate::proofs::HostLaws::accepts_turn, crate::proofs::HostLaws::taking_none, crate::proofs::HostLaws::taking_then, crate::proofs::HostLaws::taking_room, crate::proofs::HostLaws::taking_accepts, crate::proofs::HostLaws::taking_done, crate::proofs::MessageLaws::message_taking))]
 fn take_all(
     session: Session,
     input: &[u8],
@@ -230,7 +229,7 @@ fn take_key(
 }
 
 // Bytes from the host. The answer counts those taken from the input's front, and the reply bytes.
-#[tactic(auto, using(command::proofs::RefusalLaws::not_taken, admit::proofs::SettleLaws::settled_refused, admit::proofs::SettleLaws::settled_done, crate::proofs::TakeLaws::accepts_start), unfolding(rules::specs::Operation::host_bytes))]
+#[tactic(auto, using(admit::proofs::SettleLaws::settled), unfolding(rules::specs::Operation::host_bytes))]
 pub fn host_bytes(
     session: Session,
     input: &[u8],
@@ -250,7 +249,7 @@ pub fn host_bytes(
 }
 
 // One key of the operator.
-#[tactic(auto, using(command::proofs::RefusalLaws::not_taken, admit::proofs::SettleLaws::settled_refused, admit::proofs::SettleLaws::settled_done), unfolding(rules::specs::Operation::one_key))]
+#[tactic(auto, using(admit::proofs::SettleLaws::settled), unfolding(rules::specs::Operation::one_key))]
 pub fn key(
     session: Session,
     code: u8,

@@ -33,7 +33,7 @@ pub struct Turn {
 }
 
 // What is done on an event other than data that ends no message of option 30.
-#[tactic(auto, using(decide::proofs::DecideLaws::decides, decide::proofs::DecideLaws::recast, decide::proofs::DecideLaws::fits_rule, crate::proofs::TakeLaws::idle), unfolding(crate::specs::Inner::Data::told_effect))]
+#[tactic(auto, unfolding(crate::specs::Inner::Data::told_effect))]
 fn decide_event(frame: Frame, attrs: &[u8], held: Held, event: Event) -> Decision
     requires { Fits (seen frame attrs.now) }
     ensures { Decides (seen frame attrs.now) result (λ v. told_effect v held event) }
@@ -52,7 +52,7 @@ fn decide_event(frame: Frame, attrs: &[u8], held: Held, event: Event) -> Decisio
 }
 
 // Does what an event asks for that ends no message of option 30. `held` and `cr` are as before it.
-#[tactic(auto, using(crate::proofs::TakeLaws::decided_sayable, crate::proofs::TakeLaws::decided_applies, crate::proofs::TakeLaws::not_data, crate::proofs::TakeLaws::data_applies), unfolding(crate::specs::Inner::Data::det_effect))]
+#[tactic(auto, unfolding(crate::specs::Inner::Data::det_effect))]
 fn happen(
     frame: Frame,
     lf: bool,
@@ -289,7 +289,6 @@ fn take_stretch(
 }
 
 // A stretch, and what is told after it.
-#[tactic(auto, using(crate::proofs::HostLaws::stretch_accepts, crate::proofs::HostLaws::stretch_outside, crate::proofs::HostLaws::stretch_onward, crate::proofs::HostLaws::stretch_turns, crate::proofs::HostLaws::then_turns))]
 pub(crate) fn take_turn(
     frame: Frame,
     reader: Reader,

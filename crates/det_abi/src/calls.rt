@@ -78,7 +78,7 @@ pub extern "C" fn det_open(
 
 // Host bytes.
 #[unsafe(no_mangle)]
-#[tactic(auto, using(screen::proofs::TestLaws::passing, layout::proofs::LayoutLaws::session_length_lem, crate::proofs::CallLaws::host_none, crate::proofs::CallLaws::host_done))]
+#[tactic(auto, using(layout::proofs::LayoutLaws::session_length_lem))]
 pub extern "C" fn det_host(
     session: &mut [u8],
     input: &[u8],
@@ -103,7 +103,7 @@ pub extern "C" fn det_host(
 
 // One key, by its number.
 #[unsafe(no_mangle)]
-#[tactic(auto, using(screen::proofs::TestLaws::passing, layout::proofs::LayoutLaws::session_length_lem, crate::proofs::CallLaws::key_none, crate::proofs::CallLaws::key_done))]
+#[tactic(auto, using(layout::proofs::LayoutLaws::session_length_lem))]
 pub extern "C" fn det_key(
     session: &mut [u8],
     code: u32,

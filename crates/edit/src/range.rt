@@ -85,7 +85,6 @@ pub fn shift_range(chars: &mut [u8], from: usize, end: usize, shift: Shift, by: 
 }
 
 // The byte in every cell of the range: an attribute byte, a mark, a space.
-#[tactic(auto, using(crate::proofs::ListLaws::storing_start, crate::proofs::ListLaws::storing_hit, crate::proofs::ListLaws::in_range_lem, crate::proofs::ListLaws::before_range))]
 pub fn fill(bytes: &mut [u8], from: usize, end: usize, byte: u8)
     ensures { bytes.new ≡ filled from end byte bytes.old }
 {

@@ -149,7 +149,7 @@ fn step(scan: Scan, said: FieldRecord, attrs: &[u8]) -> Scan
     check(scan, said, attrs)
 }
 
-#[tactic(auto, using(crate::proofs::ScanLaws::scan_stop, crate::proofs::ScanLaws::scan_end, crate::proofs::ScanLaws::scan_next, crate::proofs::ScanLaws::count_next))]
+#[tactic(auto, using(crate::proofs::ScanLaws::scan_stop, crate::proofs::ScanLaws::scan_end, crate::proofs::ScanLaws::scan_next))]
 pub(crate) fn scan_list(list: &[FieldRecord], attrs: &[u8], seeks: bool, cell: usize) -> Scan
     ensures { result ≡ scanned (begun seeks cell) list.now attrs.now }
 {

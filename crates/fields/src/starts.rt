@@ -41,7 +41,7 @@ fn block_end(cell: usize, cells: usize) -> usize
 }
 
 // A field starts at the first cell, if there is one.
-#[tactic(auto, using(crate::proofs::CountLaws::first_starts, crate::proofs::CountLaws::starts_few), unfolding(crate::specs::Inner::Starts::starts_before))]
+#[tactic(auto, using(crate::proofs::CountLaws::first_starts, crate::proofs::CountLaws::starts_few))]
 pub(crate) fn count_starts(attrs: &[u8]) -> usize
     ensures { result ≡ starts_before attrs.now (length attrs.now) }
 {

@@ -204,3 +204,6 @@ module _ {code : ℕ} {buf : List ℕ} {at : ℕ} {chars attrs buf₁ : List ℕ
       let after = fields_skips (end - (cell + 1)) written (omega (arith, low, high, e))
       (λ k a b. none_opens attrs cell k (omega arith) (omega (arith, e, there, b))) in
       to_next (rw there at after) (omega (arith, high, e)) f
+
+-- bytes written one by one, each 255 twice
+pub ruleset doubling = (writing_start, writing_more, doubled_at)

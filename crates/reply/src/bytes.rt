@@ -24,7 +24,7 @@ pub(crate) fn put_doubled(reply: &mut [u8], at: usize, byte: u8) -> usize
 }
 
 // The payload of a subnegotiation.
-#[tactic(auto, using(crate::proofs::WriteLaws::writing_start, crate::proofs::WriteLaws::writing_more, crate::proofs::WriteLaws::writing_length, crate::proofs::WriteLaws::doubled_at))]
+#[tactic(auto, using(crate::proofs::WriteLaws::doubling))]
 pub(crate) fn put_payload(reply: &mut [u8], at: usize, payload: &[u8]) -> usize
     ensures { Wrote reply.old at (doubled_pieces payload.now) reply.new result }
 {

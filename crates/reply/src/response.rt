@@ -11,7 +11,7 @@ use pad::response::{response_at, response_length};
 use telnet::code::{IAC, SB, SE};
 
 // The code, and each parameter with its value.
-#[tactic(auto, using(crate::proofs::WriteLaws::writing_start, crate::proofs::WriteLaws::writing_more, crate::proofs::WriteLaws::writing_length, crate::proofs::WriteLaws::doubled_at))]
+#[tactic(auto, using(crate::proofs::WriteLaws::doubling))]
 fn put_parameters(values: Values, reply: &mut [u8], at: usize) -> usize
     ensures { Wrote reply.old at (doubled_pieces (response_of values)) reply.new result }
 {

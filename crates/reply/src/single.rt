@@ -24,7 +24,7 @@ fn opens_between(before: u8, here: u8) -> bool
 }
 
 // Does one start at each of the thirty-two cells after this one? The loop has one way out, so that the compiler tests many at once.
-#[tactic(auto, using(words::proofs::Laws::and_left, words::proofs::Laws::and_right, crate::proofs::SingleLaws::open_none, crate::proofs::SingleLaws::open_next, crate::proofs::SingleLaws::open_missed))]
+#[tactic(auto, using(crate::proofs::SingleLaws::open_next, crate::proofs::SingleLaws::open_missed))]
 fn each_opens(attrs: &[u8], cell: usize) -> bool
     requires { cell + 33 ≤ length attrs.now }
     ensures opens { result ≡ true → EachOpens attrs.now cell 32 }

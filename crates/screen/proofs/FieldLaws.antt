@@ -196,3 +196,6 @@ module _ (test : ℕ → Bool) (attrs : List ℕ) (i j : ℕ)
 
   pub some_nowhere : length attrs ≤ j → some_in test i (length attrs) ≡ false
   some_nowhere h = rw (e, first_end test (length attrs) j (length attrs) h) (le-ltb (length attrs) (length attrs) (omega arith))
+
+-- is any cell guarded: looked for a field at a time
+pub ruleset by_fields = (end_gt, first_past_field, some_here, some_nowhere)

@@ -6,7 +6,7 @@ use Rattle.screen.specs.Fields.{first_from}
 use Rattle.screen.specs.Scans.{is_target, next_open}
 use Rattle.screen.specs.Inner.Skips.{PastGuarded}
 use Rattle.screen.specs.declared.cell.Place.{Place}
-use Rattle.screen.proofs.WordLaws.{first_end}
+use Rattle.screen.proofs.WordLaws.{first_end, first_hit, first_skip}
 use Rattle.screen.proofs.CellLaws.{next_line, place_of_cell}
 use Rattle.screen.proofs.SkipLaws.{first_past_none}
 
@@ -42,3 +42,6 @@ module _ {suppressed : Bool} {attrs : List ℕ} {width height : ℕ} {p : Place}
         let over : length attrs ≤ y * width + x = omega (arith, mul-le-mul_right width h) in
         sym (rw (s.answer, first_end (is_open suppressed attrs) (cell_of width p) (y * width + x) (length attrs) over)
         (place_of_cell width p.x.0 p.y.0 s.start))
+
+-- the steps of the scan
+pub ruleset scanning = (first_hit, first_skip, place_of_cell, begins, ends)

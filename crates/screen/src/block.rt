@@ -49,7 +49,7 @@ fn is_passed(protected: bool, alike: bool, before: u8, here: u8) -> bool
 }
 
 // Is none of the block's cells what is looked for?
-#[tactic(auto, using(words::proofs::Laws::and_left, words::proofs::Laws::and_right, crate::proofs::SkipLaws::passed_none, crate::proofs::SkipLaws::passed_next, crate::proofs::SkipLaws::passed_none_in))]
+#[tactic(auto, using(crate::proofs::SkipLaws::passed_none_in))]
 fn none_in_block(attrs: &[u8], target: Target, cell: usize) -> bool
     requires { (0 < cell) × (cell + 32 ≤ length attrs.now) }
     ensures { result ≡ true → NoneIn attrs.now target cell (cell + 32) }

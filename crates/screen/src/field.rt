@@ -45,7 +45,7 @@ pub fn span_end(suppressed: bool, attrs: &[u8], cell: usize, stop: usize) -> usi
 }
 
 // Is some cell from `from` on guarded? A field is guarded as a whole, so one look at each is enough.
-#[tactic(auto, using(crate::proofs::FieldLaws::end_gt, crate::proofs::FieldLaws::first_past_field, crate::proofs::FieldLaws::some_here, crate::proofs::FieldLaws::some_nowhere))]
+#[tactic(auto, using(crate::proofs::FieldLaws::by_fields))]
 pub fn some_guarded(suppressed: bool, attrs: &[u8], from: usize) -> bool
     ensures { result ≡ some_in (guarded_at suppressed attrs.now) from (length attrs.now) }
 {

@@ -21,7 +21,7 @@ fn past_guarded(suppressed: bool, attrs: &[u8], width: u8, height: u8, cursor: P
 }
 
 // (Document 01, code places: a nested scan over lines and positions, left by a label at the first open cell.)
-#[tactic(auto, using(crate::proofs::WordLaws::first_hit, crate::proofs::WordLaws::first_skip, crate::proofs::CellLaws::cell_lt, crate::proofs::CellLaws::place_of_cell, crate::proofs::OpenAfter::begins, crate::proofs::OpenAfter::turns, crate::proofs::OpenAfter::ends))]
+#[tactic(auto, using(crate::proofs::OpenAfter::scanning))]
 fn open_after(suppressed: bool, attrs: &[u8], width: u8, height: u8, cursor: Place) -> Place
     requires { (cursor.x.0 < width) × (cursor.y.0 < height) × (length attrs.now ≡ height * width) }
     ensures { result ≡ place_of width (next_open suppressed attrs.now (cell_of width cursor)) }

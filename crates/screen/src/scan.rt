@@ -33,7 +33,7 @@ fn is_target(attrs: &[u8], target: Target, cell: usize) -> bool
 }
 
 // The first such cell from `from` on and before `end`, found by blocks and then one by one; none, `none`.
-#[tactic(auto, using(crate::proofs::WordLaws::first_hit, crate::proofs::WordLaws::first_skip, crate::proofs::WordLaws::first_end, crate::proofs::SkipLaws::first_past_none))]
+#[tactic(auto, using(crate::proofs::WordLaws::first_hit, crate::proofs::WordLaws::first_end, crate::proofs::SkipLaws::first_past_none))]
 fn first_by_blocks(attrs: &[u8], target: Target, from: usize, end: usize, none: usize) -> usize
     requires { (0 < from) × (from ≤ end) × (end ≤ length attrs.now) }
     ensures { result ≡ first_of (is_target attrs.now target) none from (end - from) }
@@ -85,7 +85,7 @@ pub fn first_around(attrs: &[u8], target: Target, from: usize, none: usize) -> u
 }
 
 // The last such cell before `before`; none, `none`.
-#[tactic(auto, using(crate::proofs::WordLaws::last_hit, crate::proofs::WordLaws::last_skip, crate::proofs::SkipLaws::last_past_none), unfolding(crate::specs::Words::last_of))]
+#[tactic(auto, using(crate::proofs::SkipLaws::last_past_none), unfolding(crate::specs::Words::last_of))]
 pub fn last(attrs: &[u8], target: Target, before: usize, none: usize) -> usize
     ensures { result ≡ last_before (is_target attrs.now target) attrs.now before none }
 {

@@ -18,7 +18,7 @@ use Rattle.telnet.specs.Reader.{iac, sb, se, reader}
 use Rattle.telnet.specs.Stream.{data_end, part, stretch_of, whole_from, sub_from, ahead_of}
 use Rattle.telnet.proofs.Laws.{Reads, No255, joined, one, plain_payload_read}
 use Rattle.telnet.proofs.PartLaws.{part_one, part_then}
-use Rattle.telnet.proofs.StretchLaws.{stretch_plain, stretch_length, end_iac, end_forth}
+use Rattle.telnet.proofs.StretchLaws.{stretch_plain, stretch_length, end_iac, end_forth, end_within}
 
 -- ---- anything else: one of the four tests fails
 
@@ -140,3 +140,6 @@ whole_read {s} {from} {o} {start} {end} w =
     let opens = joined (one {b = sb} Opening Nothing refl) (one {b = o} (Inside o) (Begin o) (rw (ne_eqb _ _ w.option))) in
     let own = rw append-nil at (joined (plain_payload_read o (part start end s) w.plain) (one {b = iac} (InsideIac o) Nothing refl)) in
     rw (w.on, all, w.opening, last_byte, w.ends) (joined (joined opens own) (one {b = se} Rest (End o) refl))
+
+-- what stands ahead is a whole subnegotiation, or is not
+pub ruleset looking_ahead = (end_within, other_first, other_option, other_short, other_few, other_last, whole_sub)

@@ -187,3 +187,6 @@ module _ (s : List ℕ) (from : ℕ) where
         events = ap (events_of p) split ∙ (events_append p (part from j s) (drop j s) ∙ rw (r.events, r.phase));
         phase = ap (phase_after p) split ∙ (phase_append p (part from j s) (drop j s) ∙ rw r.phase);
       }
+
+-- where a stretch ends
+pub ruleset stretching = (stretch_iac, stretch_last, stretch_past)

@@ -21,7 +21,7 @@ pub enum Ahead {
 }
 
 // After an IAC.
-#[tactic(auto, using(crate::proofs::StretchLaws::end_within, crate::proofs::AheadLaws::other_first, crate::proofs::AheadLaws::other_option, crate::proofs::AheadLaws::other_short, crate::proofs::AheadLaws::other_few, crate::proofs::AheadLaws::other_last, crate::proofs::AheadLaws::whole_sub))]
+#[tactic(auto, using(crate::proofs::AheadLaws::looking_ahead))]
 fn sub_from(input: &[u8], from: usize) -> Ahead
     ensures { result ≡ sub_from input.now from }
 {

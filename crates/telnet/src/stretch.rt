@@ -132,7 +132,7 @@ pub(crate) fn data_end(input: &[u8], from: usize) -> usize
 }
 
 // The stretch from `from` on, of a reader that its bytes leave in `phase`, and an IAC leads to `after`.
-#[tactic(auto, using(crate::proofs::StretchLaws::stretch_iac, crate::proofs::StretchLaws::stretch_last, crate::proofs::StretchLaws::stretch_past))]
+#[tactic(auto, using(crate::proofs::StretchLaws::stretching))]
 fn stretch_at(phase: Phase, after: Phase, input: &[u8], from: usize) -> Stretch
     requires { after ≡ (read_of phase iac).phase }
     ensures { result ≡ stretch_of phase input.now from }

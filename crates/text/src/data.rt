@@ -120,7 +120,7 @@ fn obey_control(frame: Frame, joins: bool, cr: bool, bytes: &[u8], at: usize) ->
 
 // Data: the frame after it. It does what its bytes do one after the other. Where `joins`, an LF right after a CR is passed over, and `cr`
 // tells whether a CR came last before the first byte. One character alone is not worth a copy.
-#[tactic(auto, using(screen::proofs::TestLaws::failing, screen::proofs::TestLaws::passing, crate::proofs::TextLaws::texted_none, crate::proofs::TextLaws::texted_character, crate::proofs::TextLaws::texted_control, crate::proofs::TextLaws::texted_all, crate::proofs::PlainLaws::each_two, crate::proofs::PlainLaws::each_row))]
+#[tactic(auto, using(crate::proofs::PlainLaws::each_row))]
 pub fn host_text(
     frame: Frame,
     joins: bool,

@@ -44,7 +44,6 @@ pub(crate) fn character_at(bytes: &[u8], at: usize) -> bool
     false
 }
 
-#[tactic(auto, using(words::proofs::Laws::and_left, words::proofs::Laws::and_right, crate::proofs::PlainLaws::each_none, crate::proofs::PlainLaws::each_next))]
 fn sixteen_characters(bytes: &[u8], from: usize) -> bool
     requires { from + 16 ≤ length bytes.now }
     ensures { result ≡ true → Each printable bytes.now from 16 }
@@ -100,7 +99,6 @@ fn is_unguarded(attr: u8) -> bool
     protection(attr) != 1
 }
 
-#[tactic(auto, using(words::proofs::Laws::and_left, words::proofs::Laws::and_right, crate::proofs::PlainLaws::each_none, crate::proofs::PlainLaws::each_next))]
 fn sixteen_unguarded(attrs: &[u8], cell: usize) -> bool
     requires { cell + 16 ≤ length attrs.now }
     ensures { result ≡ true → Each unguarded attrs.now cell 16 }

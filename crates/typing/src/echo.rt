@@ -79,7 +79,7 @@ const DISPLAY: u8 = 2;
 const STROKE: u8 = b'\\';
 
 // The set that a key is in under parameter 20; 0 for none.
-#[tactic(auto, unfolding(crate::proofs::Kit::tabulate, crate::specs::Echo::control_echo, crate::specs::Keys::among, crate::specs::Echo::echo_set))]
+#[tactic(auto, unfolding(crate::specs::Echo::echo_set))]
 fn echo_set(key: u8) -> u8
     ensures { result ≡ echo_set key }
 {

@@ -76,7 +76,7 @@ fn is_alphanumeric(key: u8) -> bool
 }
 
 // The set that a key is in under parameter 3; 0 for none.
-#[tactic(auto, unfolding(crate::proofs::Kit::tabulate, crate::specs::Keys::control_set, crate::specs::Keys::among, crate::specs::Keys::forward_set))]
+#[tactic(auto, unfolding(crate::specs::Keys::forward_set))]
 fn forward_set(key: u8) -> u8
     ensures { result ≡ forward_set key }
 {

@@ -31,4 +31,4 @@ pub returns : goal.returns
 returns c =
     let a = c.args in
     let r = c.requires in
-    wrote_seven a.code r.code_value a.chars.now a.cell r.cell_in_bounds.0 r.cell_in_bounds.1 c.put_bytes.ensures
+    wrote_seven a.code r.not_iac a.chars.now a.cell r.room.0 r.room.1 c.put_bytes.ensures

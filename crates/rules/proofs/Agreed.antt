@@ -1,5 +1,5 @@
 -- Document 02, request (ii): worked cases of what is agreed, and which codes each bit of a map lets through.
-use Rattle.std.specs.Prelude.{if◌then◌else◌}
+use Rattle.std.specs.Prelude.{if◌then◌else◌, Some}
 use mathlib.Core.Path.{◌≡◌, refl}
 use mathlib.Core.Bool.{Bool, true, false, not, ◌&&◌}
 use mathlib.Core.List.{List, [], ◌∷◌, ◌++◌, map}
@@ -83,10 +83,10 @@ agreed_holds = each_equal agreed_cases agreed_pass
 -- ---- the intersection with the terminal's own maps, whatever the bit and the maps received are
 
 pub record Intersects (e : Edition) (m : Maps) (w : ℕ) : Type 0 where
-  pub edit : agreed e m (EditBit w) ≡ (bit w m.edit && bit w 126)
-  pub erase : agreed e m (EraseBit w) ≡ (bit w m.erase && bit w 31)
-  pub transmit : agreed e m (TransmitBit w) ≡ (bit w m.transmit && bit w 63)
-  pub format1 : agreed e m (Format1Bit w) ≡ (bit w m.format1 && bit w 121)
+  pub edit : agreed e m (Some (EditBit w)) ≡ (bit w m.edit && bit w 126)
+  pub erase : agreed e m (Some (EraseBit w)) ≡ (bit w m.erase && bit w 31)
+  pub transmit : agreed e m (Some (TransmitBit w)) ≡ (bit w m.transmit && bit w 63)
+  pub format1 : agreed e m (Some (Format1Bit w)) ≡ (bit w m.format1 && bit w 121)
 
 pub intersects : (e : Edition) (m : Maps) (w : ℕ) → Intersects e m w
 unfolding agreed
@@ -94,8 +94,8 @@ intersects e m w = record { edit = refl; erase = refl; transmit = refl; format1 
 
 -- the first format map goes by the edition (request (vi))
 pub record IntersectsFormat (m : Maps) (w : ℕ) : Type 0 where
-  pub june : agreed June m (Format0Bit w) ≡ (bit w m.format0 && bit w 144)
-  pub september : agreed September m (Format0Bit w) ≡ (bit w m.format0 && bit w 208)
+  pub june : agreed June m (Some (Format0Bit w)) ≡ (bit w m.format0 && bit w 144)
+  pub september : agreed September m (Some (Format0Bit w)) ≡ (bit w m.format0 && bit w 208)
 
 pub intersects_format : (m : Maps) (w : ℕ) → IntersectsFormat m w
 unfolding agreed

@@ -1,4 +1,5 @@
 -- What a call returns and leaves, taken or refused.
+use Rattle.std.specs.Prelude.{Ok, Err}
 use mathlib.Core.Path.{◌≡◌, refl}
 use mathlib.Core.Bool.{true, false}
 use mathlib.Core.List.{List}
@@ -7,11 +8,11 @@ use lib.ListN.{length, take}
 use lib.Seq.{take-append_seam}
 use Rattle.words.proofs.Laws.{either}
 use Rattle.rules.specs.declared.Refusal.{Refusal}
-use Rattle.rules.specs.declared.Refusal.TheVariants.{Taken}
 use Rattle.rules.specs.Session.{State}
-use Rattle.rules.specs.Refusal.{is_taken}
+use Rattle.rules.specs.Refusal.{Verdict}
 use Rattle.rules.specs.Operation.{Ran, Outcome, running, refusing, answering, unless, taken_of, host_refusal, host_ran, host_bytes, key_refusal, key_ran, one_key}
 use Rattle.rules.specs.Call.{Call, host, key, called, left}
+use Rattle.rules.proofs.Verdicts.{taken_or_refused}
 -- the sentences of document 01 are checked first, so that a wrong rule is refused there
 use Rattle.rules.proofs.Causes.{nothing_else}
 
@@ -20,7 +21,7 @@ abbrev pub replies_in : Outcome → List ℕ
 replies_in o = take o.answer.written o.reply
 
 -- what a call leaves is what the bytes do that it counts as taken
-pub taken_ran : (s : State) (reply input : List ℕ) → host_refusal s reply ≡ Taken →
+pub taken_ran : (s : State) (reply input : List ℕ) → host_refusal s reply ≡ Ok tt →
     let o = host_bytes s reply input in
     let r = running s (take o.answer.taken input) in
     (left o ≡ r.state) × (replies_in o ≡ r.replies)
@@ -34,7 +35,7 @@ abbrev pub reply_of : Call → List ℕ
 reply_of (host input reply) = reply
 reply_of (key code reply) = reply
 
-abbrev pub refusal_by : State → Call → Refusal
+abbrev pub refusal_by : State → Call → Verdict
 refusal_by s (host input reply) = host_refusal s reply
 refusal_by s (key code reply) = key_refusal s reply code
 
@@ -48,11 +49,11 @@ ran_by s (key code reply) = key_ran s code
 
 -- a fact about what a call returns and leaves: where it is taken, and where it is refused
 pub called_cases : (P : Outcome → Type 0) (s : State) (c : Call)
-    → (is_taken (refusal_by s c) ≡ true → P (answering (taken_by s c) (ran_by s c) (reply_of c)))
-    → (is_taken (refusal_by s c) ≡ false → P (refusing (refusal_by s c) s (reply_of c))) → P (called s c)
+    → (refusal_by s c ≡ Ok tt → P (answering (taken_by s c) (ran_by s c) (reply_of c)))
+    → ((r : Refusal) → refusal_by s c ≡ Err r → P (refusing r s (reply_of c))) → P (called s c)
 unfolding called host_bytes one_key unless
-called_cases P s (host input reply) = either P (is_taken (host_refusal s reply))
-called_cases P s (key code reply) = either P (is_taken (key_refusal s reply code))
+called_cases P s (host input reply) t f = taken_or_refused (host_refusal s reply) (λ e. rw e (t e)) (λ r e. rw e (f r e))
+called_cases P s (key code reply) t f = taken_or_refused (key_refusal s reply code) (λ e. rw e (t e)) (λ r e. rw e (f r e))
 
 -- ---- refusals
 
@@ -64,7 +65,7 @@ pub record Unchanged (s : State) (c : Call) (o : Outcome) : Type 0 where
   pub written : o.answer.written ≡ 0
 
 -- whatever the reason
-pub refused_unchanged : (s : State) (c : Call) → ((called s c).answer.refusal ≡ Taken → ⊥) → Unchanged s c (called s c)
+pub refused_unchanged : (s : State) (c : Call) → ((called s c).answer.verdict ≡ Ok tt → ⊥) → Unchanged s c (called s c)
 refused_unchanged s c =
-    called_cases (λ o. (o.answer.refusal ≡ Taken → ⊥) → Unchanged s c o) s c (λ t e. absurd (e refl))
-    (λ f e. record { state = refl; reply = refl; taken = refl; written = refl })
+    called_cases (λ o. (o.answer.verdict ≡ Ok tt → ⊥) → Unchanged s c o) s c (λ t e. absurd (e refl))
+    (λ r f e. record { state = refl; reply = refl; taken = refl; written = refl })

@@ -1,6 +1,6 @@
 -- Nothing but what the documents name changes the attribute bytes, the options, suppression, the characters, the cursor, or what the PAD
 -- keeps; nothing at all the edition.
-use Rattle.std.specs.Prelude.{if◌then◌else◌}
+use Rattle.std.specs.Prelude.{if◌then◌else◌, Option, Some, None, Result, Ok, Err, ⊤}
 use mathlib.Core.Path.{◌≡◌, refl, sym, ◌∙◌}
 use mathlib.Core.Bool.{Bool, true, false, not, ◌&&◌}
 use mathlib.Core.List.{List, [], ◌∷◌, ◌++◌, map}
@@ -33,23 +33,23 @@ use Rattle.rules.specs.declared.Command.TheVariants.{Facilities, MoveCursor, Ski
 use Rattle.rules.specs.declared.Maps.{Maps}
 use Rattle.rules.specs.declared.Governor.{Governor}
 use Rattle.rules.specs.declared.Fault.{Fault}
-use Rattle.rules.specs.declared.Fault.TheVariants.{NoFault, NotAgreed, UnknownCode, OffScreen, TooManyParameters, TooFewParameters, BadValue, BadMap}
+use Rattle.rules.specs.declared.Fault.TheVariants.{NotAgreed, UnknownCode, OffScreen, TooManyParameters, TooFewParameters, BadValue, BadMap}
 use Rattle.rules.specs.declared.Key.{Key}
 use Rattle.rules.specs.Session.{View, State, printable, cells, x3_cells, switched, with_x3, with_received, line_takes_keys, view_of, cursor_cell, screen_end, with_cursor, with_modes, with_frame, with_attrs}
 use Rattle.rules.specs.Effect.{Effect, Executed, Change, Marking, kept, marks_after, Part, changed_all, changing, saying, quiet, writing, clearing}
 use Rattle.rules.specs.Edition.{meant_by}
 use Rattle.rules.specs.Facility.{agreed}
-use Rattle.rules.specs.Command.{Row, rows, Listed, listed, unlisted, row_of, code_in, parameter, format_count, value_fault, fault_of}
+use Rattle.rules.specs.Command.{Row, rows, row_of, code_in, parameter, format_count, value_fault, fault_of}
 use Rattle.rules.specs.Cursor.{cursor_guarded}
 use Rattle.rules.specs.Telnet.{is_on, accepts, turned, switched_on, switched_off, negotiated, host_character, host_characters, host_data, host_text}
 use Rattle.rules.specs.Pad.{empties, pad_after, takes_key, pad_typed, echoed_at, typed_to, passes}
 use Rattle.rules.specs.Subcommand.{transmitted, erasure, shifting_cells, lines_guarded, suppressing, obeyed, judged, looked, subcommand}
 use Rattle.rules.specs.Key.{key_of, pressed}
-use Rattle.rules.specs.Refusal.{is_taken}
 use Rattle.rules.specs.Operation.{happening, host_byte, applied, running, unless, host_bytes, host_refusal, press_effect, pad_pressed, one_key, key_refusal}
 use Rattle.rules.specs.Call.{host, key, called}
 use Rattle.rules.specs.Executed.{one_of}
 use Rattle.rules.specs.Causes.{Aspect, attributes, det, x3, suppression, received, characters, marks, cursor, values, line, Same, changers, byte, execution, negotiation, keystroke, typing, may_change, command_cause, message_cause, cause_of, causes_in, key_cause, causes_of, none_changes, NothingElse, EditionKept, ReaderKept}
+use Rattle.rules.proofs.Verdicts.{taken_or_refused}
 use Rattle.rules.proofs.All.{All, ◌and◌, all_equal}
 use Rattle.rules.proofs.Rows.{in_list, found_code}
 use Rattle.rules.proofs.Options.{by_option}
@@ -224,8 +224,8 @@ unfolding rows is_move
 moves_5 = refl
 
 module _ (v : View) (h : Held) where
-  abbrev Limits : Command → Fault → Type 0
-  Limits c f = f ≡ OffScreen → is_move c ≡ true
+  abbrev Limits : Command → Result ⊤ Fault → Type 0
+  Limits c f = f ≡ Err OffScreen → is_move c ≡ true
 
   limits_value : (c : Command) → Limits c (value_fault v c h)
   unfolding value_fault is_move
@@ -247,7 +247,7 @@ module _ (v : View) (h : Held) where
   limits_value SuppressProtection = either (Limits SuppressProtection) (between 251 254 (parameter h 0)) (λ q e. cc) (λ q e. cc)
   limits_value Error = λ e. cc
 
-  limits : (c : Command) (n : ℕ) (g : Governor) → Limits c (fault_of v c n g h)
+  limits : (c : Command) (n : ℕ) (g : Option Governor) → Limits c (fault_of v c n g h)
   unfolding fault_of
   limits c n g =
       either (Limits c) (not (agreed v.frame.edition v.frame.received g)) (λ q e. cc)
@@ -286,22 +286,22 @@ module _ (v : View) (h : Held) where
   abbrev LeavesCommand : Effect → Type 0
   LeavesCommand e = Leaves (λ a. may_change a (command_cause v.frame.edition h e.executed)) v e
 
-  leaves_judged : (r : Row) → LeavesRow r → (f : Fault) → (f ≡ OffScreen → eqb (meant_by v.frame.edition (code_in h)) 5 ≡ true)
+  leaves_judged : (r : Row) → LeavesRow r → (f : Result ⊤ Fault) → (f ≡ Err OffScreen → eqb (meant_by v.frame.edition (code_in h)) 5 ≡ true)
       → LeavesCommand (judged v r h f)
   unfolding judged command_cause may_change changers one_of
-  leaves_judged r k NoFault l = leaving k.the_attributes k.the_det k.the_x3 k.the_suppression k.the_received k.the_characters k.the_marks k.the_cursor k.the_edition
-  leaves_judged r k OffScreen l = moves (rw (l refl))
-  leaves_judged r k NotAgreed l = says
-  leaves_judged r k UnknownCode l = says
-  leaves_judged r k TooManyParameters l = says
-  leaves_judged r k TooFewParameters l = says
-  leaves_judged r k BadValue l = says
-  leaves_judged r k BadMap l = says
+  leaves_judged r k (Ok passed) l = leaving k.the_attributes k.the_det k.the_x3 k.the_suppression k.the_received k.the_characters k.the_marks k.the_cursor k.the_edition
+  leaves_judged r k (Err OffScreen) l = moves (rw (l refl))
+  leaves_judged r k (Err NotAgreed) l = says
+  leaves_judged r k (Err UnknownCode) l = says
+  leaves_judged r k (Err TooManyParameters) l = says
+  leaves_judged r k (Err TooFewParameters) l = says
+  leaves_judged r k (Err BadValue) l = says
+  leaves_judged r k (Err BadMap) l = says
 
-  leaves_looked : (l : Listed) → row_of v.frame.edition (code_in h) ≡ l → LeavesCommand (looked v l h)
+  leaves_looked : (l : Option Row) → row_of v.frame.edition (code_in h) ≡ l → LeavesCommand (looked v l h)
   unfolding looked
-  leaves_looked unlisted e = says
-  leaves_looked (listed r) e =
+  leaves_looked None e = says
+  leaves_looked (Some r) e =
       let edition = v.frame.edition in
       let row = in_list LeavesRow leaves_rows edition (code_in h) in
       let five = in_list (λ r. is_move r.command ≡ eqb r.code 5) (all_equal _ _ rows moves_5) edition (code_in h) in
@@ -495,13 +495,13 @@ same_run a s (b ∷ bs) n =
 pub nothing_else : NothingElse
 unfolding called host_bytes one_key unless causes_of none_changes
 nothing_else a s (host input reply) =
-    true_or_false (is_taken (host_refusal s reply)) (λ e. rw e (λ n. same_run a s _ n)) (λ e. rw e (λ n. same_refl a s))
+    taken_or_refused (host_refusal s reply) (λ e. rw e (λ n. same_run a s _ n)) (λ r e. rw e (λ n. same_refl a s))
 nothing_else a s (key k reply) =
     let may = may_change a (key_cause s.session.frame k) in
-    true_or_false (is_taken (key_refusal s reply k))
+    taken_or_refused (key_refusal s reply k)
     (λ e. rw e
     (λ n. same_applied a s _ _ _ (not-true _ (and_left (not may) _ n)) (leaves_key s k) (key_pad s k)))
-    (λ e. rw e (λ n. same_refl a s))
+    (λ r e. rw e (λ n. same_refl a s))
 
 -- the edition
 pub edition_byte : (s : State) (b : ℕ) → (host_byte s b).state.session.frame.edition ≡ s.session.frame.edition
@@ -515,10 +515,10 @@ edition_run s (b ∷ bs) = edition_run (host_byte s b).state bs ∙ edition_byte
 
 pub edition_kept : EditionKept
 unfolding called host_bytes one_key unless
-edition_kept s (host input reply) = true_or_false (is_taken (host_refusal s reply)) (λ e. rw e (edition_run s _)) (λ e. rw e)
+edition_kept s (host input reply) = taken_or_refused (host_refusal s reply) (λ e. rw e (edition_run s _)) (λ r e. rw e)
 edition_kept s (key k reply) =
-    true_or_false (is_taken (key_refusal s reply k)) (λ e. rw e (leaves_key s k).the_edition) (λ e. rw e)
+    taken_or_refused (key_refusal s reply k) (λ e. rw e (leaves_key s k).the_edition) (λ r e. rw e)
 
 pub reader_kept : ReaderKept
 unfolding called one_key unless
-reader_kept s k reply = true_or_false (is_taken (key_refusal s reply k)) (λ e. rw e) (λ e. rw e)
+reader_kept s k reply = taken_or_refused (key_refusal s reply k) (λ e. rw e) (λ r e. rw e)

@@ -1,5 +1,5 @@
 -- What every effect keeps: the size of the screen, the cursor on it, printable characters, a reply within the room.
-use Rattle.std.specs.Prelude.{if◌then◌else◌}
+use Rattle.std.specs.Prelude.{if◌then◌else◌, Option, Some, None, Result, Ok, Err, ⊤}
 use mathlib.Core.Path.{◌≡◌, refl}
 use mathlib.Core.Bool.{Bool, true, false, ◌&&◌}
 use mathlib.Core.List.{List, [], ◌∷◌}
@@ -34,7 +34,7 @@ use Rattle.rules.specs.declared.Command.{Command}
 use Rattle.rules.specs.declared.Command.TheVariants.{Facilities, MoveCursor, SkipToLine, SkipToChar, Move, LineShift, CharShift, ReadCursor, Transmit, TransmitModified, Erase, FormatData, Repeat, SuppressProtection, Error}
 use Rattle.rules.specs.declared.Fault.{Fault}
 use Rattle.rules.specs.declared.Maps.{Maps}
-use Rattle.rules.specs.declared.Fault.TheVariants.{NoFault, NotAgreed, UnknownCode, OffScreen, TooManyParameters, TooFewParameters, BadValue, BadMap}
+use Rattle.rules.specs.declared.Fault.TheVariants.{NotAgreed, UnknownCode, OffScreen, TooManyParameters, TooFewParameters, BadValue, BadMap}
 use Rattle.rules.specs.declared.Key.{Key}
 use Rattle.rules.specs.declared.Key.TheVariants.{Typed, Back, Tab, Send, Delete, Function, Meaningless}
 use Rattle.rules.specs.Session.{View, State, printable, cells, x3_cells, with_received, line_takes_keys, view_of, with_frame}
@@ -45,7 +45,7 @@ use Rattle.rules.specs.Facility.{own_map}
 use Rattle.rules.specs.Cursor.{cursor_guarded}
 use Rattle.rules.specs.Telnet.{is_on, accepts, turned, switched_on, switched_off, negotiated, host_character, host_characters, host_data, host_text}
 use Rattle.rules.specs.Pad.{is_x3, counts, response, takes_key, echoed_at, typed_to, passes}
-use Rattle.rules.specs.Command.{Row, Listed, listed, unlisted, parameter, place_in, value_fault, fault_of}
+use Rattle.rules.specs.Command.{Row, parameter, place_in, value_fault, fault_of}
 use Rattle.rules.specs.Subcommand.{preface_bytes, preface, unless_guarded, field_from, transmitted, transmitted_modified, erasure, shifting_cells, lines_guarded, suppressing, obeyed, judged, looked, subcommand}
 use Rattle.rules.specs.Key.{key_of, pressed}
 use Rattle.rules.specs.Operation.{happening, press_effect}
@@ -165,7 +165,10 @@ keeps_text (b ∷ bs) {m} {n} k =
 
 -- ---- subcommands
 
-chosen : (b : Bool) → (if b then NoFault else BadValue) ≡ NoFault → b ≡ true
+abbrev bad_unless : Bool → Result ⊤ Fault
+bad_unless b = if b then Ok tt else Err BadValue
+
+chosen : (b : Bool) → bad_unless b ≡ Ok tt → b ≡ true
 chosen true e = refl
 chosen false e = cc
 
@@ -241,7 +244,7 @@ module _ {m n : ℕ} {v : View} (k : SoundView m n v) where
   shifts_unless : (guarded : Bool) (s : Shift) (from end by : ℕ) → Keeps m n (if guarded then quiet v else shifting_cells v s from end by)
   shifts_unless guarded s from end by = either (Keeps m n) guarded (λ g. quietly k) (λ g. changes k _ tt)
 
-  keeps_obeyed : (c : Command) (h : Held) → value_fault v c h ≡ NoFault → Keeps m n (obeyed v c h)
+  keeps_obeyed : (c : Command) (h : Held) → value_fault v c h ≡ Ok tt → Keeps m n (obeyed v c h)
   unfolding obeyed value_fault
   keeps_obeyed (Facilities f) h e = keeps_map f _
   keeps_obeyed MoveCursor h e = quietly (at_place k _ (limited_on k (place_in h)))
@@ -259,23 +262,23 @@ module _ {m n : ℕ} {v : View} (k : SoundView m n v) where
   keeps_obeyed SuppressProtection h e = keeps_suppressing _
   keeps_obeyed Error h e = quietly k
 
-  keeps_judged : (r : Row) (h : Held) (f : Fault) → fault_of v r.command r.parameters r.governor h ≡ f → Keeps m n (judged v r h f)
+  keeps_judged : (r : Row) (h : Held) (f : Result ⊤ Fault) → fault_of v r.command r.parameters r.governor h ≡ f → Keeps m n (judged v r h f)
   unfolding judged
-  keeps_judged r h NoFault e =
+  keeps_judged r h (Ok passed) e =
       let o = keeps_obeyed r.command h (no_fault v _ _ r.governor h e) in
       record { view = o.view; changes = o.changes; reply = o.reply; executed = omega arith }
-  keeps_judged r h OffScreen e = errs (at_place k _ (limited_on k (place_in h))) _ 3 refl
-  keeps_judged r h NotAgreed e = errs k _ 1 refl
-  keeps_judged r h UnknownCode e = errs k _ 2 refl
-  keeps_judged r h TooManyParameters e = errs k _ 9 refl
-  keeps_judged r h TooFewParameters e = errs k _ 10 refl
-  keeps_judged r h BadValue e = errs k _ 11 refl
-  keeps_judged r h BadMap e = errs k _ 12 refl
+  keeps_judged r h (Err OffScreen) e = errs (at_place k _ (limited_on k (place_in h))) _ 3 refl
+  keeps_judged r h (Err NotAgreed) e = errs k _ 1 refl
+  keeps_judged r h (Err UnknownCode) e = errs k _ 2 refl
+  keeps_judged r h (Err TooManyParameters) e = errs k _ 9 refl
+  keeps_judged r h (Err TooFewParameters) e = errs k _ 10 refl
+  keeps_judged r h (Err BadValue) e = errs k _ 11 refl
+  keeps_judged r h (Err BadMap) e = errs k _ 12 refl
 
-  keeps_looked : (l : Listed) (h : Held) → Keeps m n (looked v l h)
+  keeps_looked : (l : Option Row) (h : Held) → Keeps m n (looked v l h)
   unfolding looked
-  keeps_looked unlisted h = errs k _ 2 refl
-  keeps_looked (listed r) h = keeps_judged r h _ refl
+  keeps_looked None h = errs k _ 2 refl
+  keeps_looked (Some r) h = keeps_judged r h _ refl
 
   keeps_subcommand : (h : Held) → Keeps m n (subcommand v h)
   unfolding subcommand

@@ -1,5 +1,5 @@
 -- Sentences of documents 01 and 02 that range over all codes, keys, options or bytes: each once, over all of them.
-use Rattle.std.specs.Prelude.{if◌then◌else◌}
+use Rattle.std.specs.Prelude.{if◌then◌else◌, Option, Some, None, Ok}
 use mathlib.Core.Path.{◌≡◌, refl, ap, ◌∙◌}
 use mathlib.Core.Bool.{Bool, true, false}
 use mathlib.Core.List.{List, [], ◌∷◌, ◌++◌}
@@ -20,16 +20,14 @@ use Rattle.rules.specs.declared.Held.{Held}
 use Rattle.rules.specs.declared.Maps.{Maps}
 use Rattle.rules.specs.declared.Edition.{Edition}
 use Rattle.rules.specs.declared.Edition.TheVariants.{June, September}
-use Rattle.rules.specs.declared.Governor.TheVariants.{Ungoverned}
-use Rattle.rules.specs.declared.Refusal.TheVariants.{Taken}
 use Rattle.rules.specs.declared.Facility.TheVariants.{Editing, Erasing, Transmitting, Formatting}
 use Rattle.rules.specs.declared.Command.TheVariants.{Facilities, Error}
 use Rattle.rules.specs.declared.Fault.TheVariants.{TooFewParameters}
 use Rattle.rules.specs.Session.{View, State, view_of, no_maps, switched, with_x3, with_received, fresh_pad, screen, with_modes, with_frame}
 use Rattle.rules.specs.Edition.{code_for, meant_by, holds}
-use Rattle.rules.specs.Refusal.{number_of, verdict, open_tests}
+use Rattle.rules.specs.Refusal.{told_number, verdict, open_tests}
 use Rattle.rules.specs.Effect.{Effect, bytes, saying, quiet}
-use Rattle.rules.specs.Command.{Row, row, never, Listed, listed, unlisted, row_of, code_in, fault_of}
+use Rattle.rules.specs.Command.{Row, row, never, row_of, code_in, fault_of}
 use Rattle.rules.specs.Telnet.{option_of, is_on, accepts, turned, switched_on, switched_off, negotiated}
 use Rattle.rules.specs.Subcommand.{obeyed, erring, judged, looked, subcommand}
 use Rattle.rules.specs.Pad.{pad_after}
@@ -91,9 +89,9 @@ listed_parameters June code =
     else if eqb code 35 then 4 ∷ []
     else []
 
-abbrev parameters_in : Listed → List ℕ
-parameters_in (listed r) = r.parameters ∷ []
-parameters_in unlisted = []
+abbrev parameters_in : Option Row → List ℕ
+parameters_in (Some r) = r.parameters ∷ []
+parameters_in None = []
 
 codes_computed : (e : Edition) → failures (λ code. same (parameters_in (row_of e code)) (listed_parameters e code)) 256 ≡ []
 unfolding computing seeing one_of listed_parameters
@@ -134,7 +132,7 @@ unfolding computing
 june_list = refl
 
 -- and one that is not draws ERROR 2, whatever follows it
-pub every_other_code : (v : View) (h : Held) → eqb h.count 0 ≡ false → row_of v.frame.edition (code_in h) ≡ unlisted
+pub every_other_code : (v : View) (h : Held) → eqb h.count 0 ≡ false → row_of v.frame.edition (code_in h) ≡ None
     → subcommand v h ≡ saying v (bytes (subnegotiation 20 (error_code v.frame.edition ∷ code_in h ∷ 2 ∷ [])) ∷ [])
 unfolding subcommand looked
 every_other_code v h n e = rw (n, e, error_code_lem v.frame.edition)
@@ -212,7 +210,7 @@ data_sweep title on = sweep title 54 (λ b. look (called (resting on) (host (b �
 
 -- what is told of a host byte that is taken
 abbrev byte_told : State → ℕ → Brief
-byte_told s b = briefly Taken s 1 (running s (b ∷ []))
+byte_told s b = briefly (Ok tt) s 1 (running s (b ∷ []))
 
 data_pad : (on : Bool) (b : ℕ) → (byte_told (resting on) b).left.session.pad ≡ fresh_pad
 unfolding running host_byte pad_after reader
@@ -262,9 +260,9 @@ abbrev end_sweep : Ending → Sweep
 end_sweep e = sweep e.title 18 (λ n. look (called (holding (e.held n)) (host (240 ∷ []) (replicate 18 lent)))) (λ n. fresh_pad) e.shows
 
 -- the row of a code is found once
-abbrev row_is : Listed → Row
-row_is (listed r) = r
-row_is unlisted = row 0 Error 0 Ungoverned never
+abbrev row_is : Option Row → Row
+row_is (Some r) = r
+row_is None = row 0 Error 0 None never
 
 abbrev end_told : Row → State → Brief
 end_told r s =
@@ -274,7 +272,7 @@ end_told r s =
     let one = applied s (reader_after s.session.reader 240) (pad_after s.session.frame s.session.pad (End 20)) effect in
     brief 0 1 one.state (one.replies ++ [])
 
-end_told_lem : (r : Row) (held : List ℕ) → row_of September (code_in (holding held).session.reader.held) ≡ listed r
+end_told_lem : (r : Row) (held : List ℕ) → row_of September (code_in (holding held).session.reader.held) ≡ Some r
     → byte_told (holding held) 240 ≡ end_told r (holding held)
 unfolding running host_byte happening reader subcommand looked
 end_told_lem r held e = rw e
@@ -282,7 +280,7 @@ end_told_lem r held e = rw e
 -- no byte held hinders the call, and the code is in the list
 pub record Ended (e : Ending) (n : ℕ) : Type 0 where
   pub passes : ready (holding (e.held n)) (replicate 18 lent) ≡ true
-  pub found : row_of September (code_in (holding (e.held n)).session.reader.held) ≡ listed (row_is (row_of September e.code))
+  pub found : row_of September (code_in (holding (e.held n)).session.reader.held) ≡ Some (row_is (row_of September e.code))
 
 abbrev end_test : Ending → ℕ → Bool
 end_test e = let r = row_is (row_of September e.code) in λ n. same_beside (end_told r (holding (e.held n))) ((end_sweep e).shows n)
@@ -474,7 +472,7 @@ every_option v =
 -- ---- every width and height: open refuses 1 outside 1 to 132 and 1 to 64, and 2 within, no cell being lent
 
 abbrev open_seen : ℕ → ℕ → ℕ
-open_seen m n = number_of (opened m n 732 (screen [] [] [])).answer.refusal
+open_seen m n = told_number (opened m n 732 (screen [] [] [])).answer.verdict
 
 widths : failures (λ m. eqb (open_seen m 1) (if between 1 132 m then 2 else 1)) 256 ≡ []
 unfolding computing seeing
@@ -492,7 +490,7 @@ every_height n h = eqb-true _ _ (below_passes _ 256 heights n h)
 
 -- every number named as an edition: 12 unless it is 731 or 732, and then 2
 abbrev named_seen : ℕ → ℕ
-named_seen named = number_of (opened 1 1 named (screen [] [] [])).answer.refusal
+named_seen named = told_number (opened 1 1 named (screen [] [] [])).answer.verdict
 
 pub every_edition : (named : ℕ) → named_seen named ≡ (if between 731 732 named then 2 else 12)
 unfolding opened unless verdict open_tests

@@ -1,4 +1,5 @@
 -- The premise of demand 3: the seven by their numbers, and what a call executes.
+use Rattle.std.specs.Prelude.{Option, Some, None, Result, Ok, Err, ⊤, leb}
 use mathlib.Core.Path.{◌≡◌, refl, ap, ap₂, ◌∙◌}
 use mathlib.Core.Bool.{false, not, ◌&&◌}
 use mathlib.Core.List.{List, [], ◌∷◌, map}
@@ -16,15 +17,14 @@ use Rattle.rules.specs.declared.Edition.TheVariants.{June, September}
 use Rattle.rules.specs.declared.Reader.{Reader}
 use Rattle.rules.specs.declared.Pad.{Pad}
 use Rattle.rules.specs.declared.Fault.{Fault}
-use Rattle.rules.specs.declared.Fault.TheVariants.{NoFault, NotAgreed, UnknownCode, OffScreen, TooManyParameters, TooFewParameters, BadValue, BadMap}
-use Rattle.rules.specs.declared.Refusal.TheVariants.{Taken}
+use Rattle.rules.specs.declared.Fault.TheVariants.{NotAgreed, UnknownCode, OffScreen, TooManyParameters, TooFewParameters, BadValue, BadMap}
 use Rattle.rules.specs.Number.{det_option}
-use Rattle.rules.specs.Session.{View, State, printable}
+use Rattle.rules.specs.Session.{View, State, printable, x3_cells, cells}
 use Rattle.rules.specs.Refusal.{is_taken}
 use Rattle.rules.specs.Edition.{code_for}
 use Rattle.rules.specs.Effect.{Effect, Executed}
 use Rattle.rules.specs.Facility.{agreed}
-use Rattle.rules.specs.Command.{Row, rows, Listed, listed, unlisted, row_of, code_in, reaches, reaches_past, fault_of}
+use Rattle.rules.specs.Command.{Row, rows, row_of, code_in, reaches, reaches_past, fault_of}
 use Rattle.rules.specs.Cursor.{cursor_guarded}
 use Rattle.rules.specs.Telnet.{option_of, is_on, accepts, switched_on, switched_off, negotiated, host_character, host_data}
 use Rattle.rules.specs.Pad.{passes}
@@ -33,9 +33,11 @@ use Rattle.rules.specs.Operation.{happening, host_byte, running, unless, host_by
 use Rattle.rules.specs.Call.{Call, host, key, called, left, executed_by, executed_of}
 use Rattle.rules.specs.Executed.{one_of, is_seven, Seven, SubcommandExecutes, EventExecutes, CallExecutes, none_seven, PremiseInNumbers}
 use Rattle.rules.specs.Noninterference.{none_reaches}
+use Rattle.rules.proofs.Verdicts.{taken_or_refused}
 use Rattle.rules.proofs.All.{All, all_append, all_equal}
 use Rattle.rules.proofs.Rows.{in_list, found_code}
 use Rattle.rules.proofs.Editions.{code_back}
+use Rattle.rules.proofs.Options.{by_option}
 use Rattle.rules.proofs.Causes.{edition_byte, edition_kept}
 
 -- ---- the seven
@@ -55,24 +57,24 @@ seven e code r h q =
 -- ---- a subcommand
 
 module _ (v : View) (h : Held) where
-  erring_none : (r : Row) (f : Fault) → (f ≡ NoFault → ⊥) → (judged v r h f).executed ≡ []
+  erring_none : (r : Row) (f : Result ⊤ Fault) → (f ≡ Ok tt → ⊥) → (judged v r h f).executed ≡ []
   unfolding judged
-  erring_none r NoFault p = absurd (p refl)
-  erring_none r OffScreen p = refl
-  erring_none r NotAgreed p = refl
-  erring_none r UnknownCode p = refl
-  erring_none r TooManyParameters p = refl
-  erring_none r TooFewParameters p = refl
-  erring_none r BadValue p = refl
-  erring_none r BadMap p = refl
+  erring_none r (Ok passed) p = absurd (p refl)
+  erring_none r (Err OffScreen) p = refl
+  erring_none r (Err NotAgreed) p = refl
+  erring_none r (Err UnknownCode) p = refl
+  erring_none r (Err TooManyParameters) p = refl
+  erring_none r (Err TooFewParameters) p = refl
+  erring_none r (Err BadValue) p = refl
+  erring_none r (Err BadMap) p = refl
 
   -- no command byte, or a code as it is looked up
-  known_none : (l : Listed) → row_of v.frame.edition (code_in h) ≡ l → (looked v l h).executed ≡ [] → (subcommand v h).executed ≡ []
+  known_none : (l : Option Row) → row_of v.frame.edition (code_in h) ≡ l → (looked v l h).executed ≡ [] → (subcommand v h).executed ≡ []
   unfolding subcommand
   known_none l e q = either (λ (s : Effect). s.executed ≡ []) (eqb h.count 0) (λ t. refl) (λ t. rw e q)
 
   unagreed : (r : Row) → agreed v.frame.edition v.frame.received r.governor ≡ false
-      → fault_of v r.command r.parameters r.governor h ≡ NotAgreed
+      → fault_of v r.command r.parameters r.governor h ≡ Err NotAgreed
   unfolding fault_of
   unagreed r a = rw a
 
@@ -81,40 +83,43 @@ module _ (v : View) (h : Held) where
   subcommand_executes =
       record {
         itself = λ r e n f. rw (n, e, f);
-        no_error = λ r e f. known_none (listed r) e (erring_none r _ f);
-        not_agreed = λ r e a. known_none (listed r) e (rw (unagreed r a));
-        no_code = λ e. known_none unlisted e refl;
+        no_error = λ r e f. known_none (Some r) e (erring_none r _ f);
+        not_agreed = λ r e a. known_none (Some r) e (rw (unagreed r a));
+        no_code = λ e. known_none None e refl;
         no_byte = λ e. rw e;
       }
 
 -- ---- what the reader told
 
 module _ (v : View) where
-  abbrev None : Effect → Type 0
-  None e = e.executed ≡ []
+  abbrev ExecutesNone : Effect → Type 0
+  ExecutesNone e = e.executed ≡ []
 
-  data_none : (b : ℕ) → None (host_data v b)
+  data_none : (b : ℕ) → ExecutesNone (host_data v b)
   unfolding host_data host_character
   data_none b =
-      either None (printable b) (λ q. either None (cursor_guarded v) (λ q. refl) (λ q. refl))
-      (λ q. either None (eqb b 13) (λ q. refl)
-      (λ q. either None (eqb b 10) (λ q. refl) (λ q. either None (eqb b 8) (λ q. refl) (λ q. refl))))
+      either ExecutesNone (printable b) (λ q. either ExecutesNone (cursor_guarded v) (λ q. refl) (λ q. refl))
+      (λ q. either ExecutesNone (eqb b 13) (λ q. refl)
+      (λ q. either ExecutesNone (eqb b 10) (λ q. refl) (λ q. either ExecutesNone (eqb b 8) (λ q. refl) (λ q. refl))))
 
-  negotiated_none : (verb : Verb) (option : ℕ) → None (negotiated v verb option)
-  unfolding negotiated switched_on switched_off
+  negotiated_none : (verb : Verb) (option : ℕ) → ExecutesNone (negotiated v verb option)
+  unfolding negotiated switched_on switched_off is_on accepts
   negotiated_none Will option = refl
   negotiated_none Wont option = refl
   negotiated_none Do option =
-      either None (is_on v.frame (option_of option)) (λ q. refl)
-      (λ q. either None (accepts v.frame (option_of option)) (λ q. refl) (λ q. refl))
-  negotiated_none Dont option = either None (is_on v.frame (option_of option)) (λ q. refl) (λ q. refl)
+      by_option (λ o. ExecutesNone (switched_on v o option)) option (λ e. either ExecutesNone v.frame.det (λ q. refl) (λ q. refl))
+      (λ e. either ExecutesNone v.frame.x3 (λ q. refl) (λ q. either ExecutesNone (leb x3_cells (cells v.frame)) (λ q. refl) (λ q. refl)))
+      refl
+  negotiated_none Dont option =
+      by_option (λ o. ExecutesNone (switched_off v o option)) option (λ e. either ExecutesNone v.frame.det (λ q. refl) (λ q. refl))
+      (λ e. either ExecutesNone v.frame.x3 (λ q. refl) (λ q. refl)) refl
 
   module _ (r : Reader) (p : Pad) where
-    told_none : (b : ℕ) → None (happening v r p (Data b))
+    told_none : (b : ℕ) → ExecutesNone (happening v r p (Data b))
     unfolding happening
-    told_none b = either None (passes v.frame p r.cr b) (λ q. refl) (λ q. data_none b)
+    told_none b = either ExecutesNone (passes v.frame p r.cr b) (λ q. refl) (λ q. data_none b)
 
-    other_events : (e : Event) → ((option : ℕ) → e ≡ End option → ⊥) → None (happening v r p e)
+    other_events : (e : Event) → ((option : ℕ) → e ≡ End option → ⊥) → ExecutesNone (happening v r p e)
     unfolding happening
     other_events Nothing n = refl
     other_events (Data b) n = told_none b
@@ -138,10 +143,10 @@ module _ (v : View) where
 -- ---- a call
 
 module _ (s : State) where
-  refused_none : (c : Call) → ((called s c).answer.refusal ≡ Taken → ⊥) → executed_by s c ≡ []
+  refused_none : (c : Call) → ((called s c).answer.verdict ≡ Ok tt → ⊥) → executed_by s c ≡ []
   unfolding called host_bytes unless executed_by
   refused_none (host input reply) p =
-      true_or_false (is_taken (host_refusal s reply)) (λ e. absurd (p (rw e))) (λ e. rw e)
+      taken_or_refused (host_refusal s reply) (λ e. absurd (p (rw e))) (λ r e. rw e)
   refused_none (key k reply) p = refl
 
   pub call_executes : CallExecutes s
@@ -151,7 +156,7 @@ module _ (s : State) where
         byte = λ b. refl;
         no_bytes = refl;
         more_bytes = λ b bs. refl;
-        taken = λ input reply. true_or_false (is_taken (host_refusal s reply)) (λ e. rw e) (λ e. rw e);
+        taken = λ input reply. taken_or_refused (host_refusal s reply) (λ e. rw e) (λ r e. rw e);
         a_key = λ k reply. refl;
         refused = refused_none;
         no_calls = refl;
@@ -162,27 +167,27 @@ module _ (s : State) where
 
 -- what is executed stands in the list, under the code that it came with
 abbrev Found : Edition → Executed → Type 0
-Found edition e = row_of edition (code_in e.held) ≡ listed e.row
+Found edition e = row_of edition (code_in e.held) ≡ Some e.row
 
 module _ (v : View) (h : Held) where
   abbrev AllFound : Effect → Type 0
   AllFound e = All (Found v.frame.edition) e.executed
 
-  found_judged : (r : Row) → row_of v.frame.edition (code_in h) ≡ listed r → (f : Fault) → AllFound (judged v r h f)
+  found_judged : (r : Row) → row_of v.frame.edition (code_in h) ≡ Some r → (f : Result ⊤ Fault) → AllFound (judged v r h f)
   unfolding judged
-  found_judged r e NoFault = (e, tt)
-  found_judged r e OffScreen = tt
-  found_judged r e NotAgreed = tt
-  found_judged r e UnknownCode = tt
-  found_judged r e TooManyParameters = tt
-  found_judged r e TooFewParameters = tt
-  found_judged r e BadValue = tt
-  found_judged r e BadMap = tt
+  found_judged r e (Ok passed) = (e, tt)
+  found_judged r e (Err OffScreen) = tt
+  found_judged r e (Err NotAgreed) = tt
+  found_judged r e (Err UnknownCode) = tt
+  found_judged r e (Err TooManyParameters) = tt
+  found_judged r e (Err TooFewParameters) = tt
+  found_judged r e (Err BadValue) = tt
+  found_judged r e (Err BadMap) = tt
 
-  found_looked : (l : Listed) → row_of v.frame.edition (code_in h) ≡ l → AllFound (looked v l h)
+  found_looked : (l : Option Row) → row_of v.frame.edition (code_in h) ≡ l → AllFound (looked v l h)
   unfolding looked
-  found_looked unlisted e = tt
-  found_looked (listed r) e = found_judged r e _
+  found_looked None e = tt
+  found_looked (Some r) e = found_judged r e _
 
   found_subcommand : AllFound (subcommand v h)
   unfolding subcommand

@@ -1,3 +1,4 @@
+pub mod Verdicts
 pub mod Passing
 pub mod Worked
 pub mod Shut

@@ -1,4 +1,5 @@
 -- Demand 3, noninterference, proved: from one effect to lists of host bytes, calls and lists of calls.
+use Rattle.std.specs.Prelude.{Ok}
 use mathlib.Core.Path.{◌≡◌, refl, sym, ap, ap₂, ◌∙◌}
 use mathlib.Core.Bool.{true, false, not, ◌&&◌}
 use mathlib.Core.List.{List, [], ◌∷◌, ◌++◌}
@@ -10,10 +11,9 @@ use Rattle.screen.specs.Attributes.{protected_at}
 use Rattle.words.proofs.Laws.{either, true_or_false, and_left, and_right, both, get_d-within}
 use Rattle.rules.specs.declared.Reader.{Reader}
 use Rattle.rules.specs.declared.Pad.{Pad}
-use Rattle.rules.specs.declared.Refusal.{Refusal}
 use Rattle.rules.specs.declared.Session.{Session}
 use Rattle.rules.specs.Session.{State, printable, all_printable, reply_room, screen, state, view_of}
-use Rattle.rules.specs.Refusal.{is_taken, size_tests, state_tests}
+use Rattle.rules.specs.Refusal.{Verdict, is_taken, size_tests, state_tests}
 use Rattle.rules.specs.Effect.{Effect, Executed, changed_all, marks_after}
 use Rattle.rules.specs.Command.{reaches_past}
 use Rattle.rules.specs.Cursor.{cursor_guarded}
@@ -22,6 +22,7 @@ use Rattle.rules.specs.Key.{key_of, needs_of, given, key_tests}
 use Rattle.rules.specs.Operation.{Ran, Outcome, host_byte, applied, running, answering, unless, taken_of, host_bytes, press_effect, key_refusal, one_key}
 use Rattle.rules.specs.Call.{Call, host, key, called, left, answered, answers_of, state_after, executed_by, executed_of}
 use Rattle.rules.specs.Noninterference.{none_reaches, Kept, Noninterference}
+use Rattle.rules.proofs.Verdicts.{taken_or_refused}
 use Rattle.rules.proofs.Characters.{printable_at}
 use Rattle.rules.proofs.Refusals.{all_pass}
 use Rattle.rules.proofs.Safe.{Twins, still_twins, same_reply}
@@ -55,7 +56,7 @@ same_printable (x ∷ xs) (y ∷ ys) l h =
 not_guarded : (s : State) (reply : List ℕ) (k : ℕ) → takes_key s.session.frame k ≡ false → is_taken (key_refusal s reply k) ≡ true
     → given (needs_of (key_of k)).unguarded (not (cursor_guarded (view_of s))) ≡ true
 unfolding size_tests state_tests key_tests
-not_guarded s reply k off e = let passed = all_pass _ refl (rw off at e) in search
+not_guarded s reply k off e = let passed = all_pass _ (rw off at e) in search
 
 -- so what a key does is safe
 safe_press : (s : State) (reply : List ℕ) (k : ℕ) → s.session.frame.suppressed ≡ false → is_taken (key_refusal s reply k) ≡ true
@@ -121,13 +122,13 @@ module _ (attrs c₀ d₀ : List ℕ) where
   -- ---- a call
 
   -- refused, or else done
-  unless_twins : {s t : State} {n m : ℕ} {f g : Ran} (r : Refusal) (reply : List ℕ) → TwinStates s t → (is_taken r ≡ true → TwinRuns n m f g)
-      → TwinOutcomes (unless r s reply (answering n f reply)) (unless r t reply (answering m g reply))
+  unless_twins : {s t : State} {n m : ℕ} {f g : Ran} (v : Verdict) (reply : List ℕ) → TwinStates s t → (v ≡ Ok tt → TwinRuns n m f g)
+      → TwinOutcomes (unless v s reply (answering n f reply)) (unless v t reply (answering m g reply))
   unfolding unless
-  unless_twins r reply start done =
-      true_or_false (is_taken r)
+  unless_twins v reply start done =
+      taken_or_refused v
       (λ e. let o = done e in rw e (record { answers = rw (o.taken, o.replies, (parts o.states).0); states = o.states }))
-      (λ e. rw e (record { answers = rw (parts start).0; states = start }))
+      (λ r e. rw e (record { answers = rw (parts start).0; states = start }))
 
   module _ (clean_first : all_printable c₀ ≡ true) (clean_second : all_printable d₀ ≡ true) where
     clean_twins : (c d : List ℕ) → Twins attrs c₀ d₀ c d → all_printable c ≡ all_printable d
@@ -152,7 +153,7 @@ module _ (attrs c₀ d₀ : List ℕ) where
     called_twins (key k reply) (twins s now marks c d a p w) x =
         let start = twins s now marks c d a p w in
         let e = same_tests reply start in
-        rw (e.0, e.1) (unless_twins _ reply start (λ r. applied_twins start (safe_press _ reply k p r)))
+        rw (e.0, e.1) (unless_twins _ reply start (λ r. applied_twins start (safe_press _ reply k p (ap is_taken r))))
 
     -- ---- a list of calls
 

@@ -1,5 +1,5 @@
 -- A case that passes shows what is expected of it.
-use Rattle.std.specs.Prelude.{if◌then◌else◌}
+use Rattle.std.specs.Prelude.{if◌then◌else◌, Ok, Err}
 use mathlib.Core.Path.{◌≡◌, refl, sym, ap, ap₂, ◌∙◌}
 use mathlib.Core.Bool.{Bool, true, false}
 use mathlib.Core.List.{List, [], ◌∷◌, ◌++◌}
@@ -23,10 +23,9 @@ use Rattle.screen.specs.Cells.{place}
 use Rattle.words.proofs.Laws.{not_both, true_or_false, less_or_not, and_left, and_right}
 use Rattle.rules.specs.declared.Edition.{Edition}
 use Rattle.rules.specs.declared.Edition.TheVariants.{June, September}
-use Rattle.rules.specs.declared.Refusal.{Refusal}
 use Rattle.rules.specs.Session.{Screen, State, cells, fresh_frame, fresh, session, screen, state}
 use Rattle.rules.specs.Edition.{edition_of, name_of}
-use Rattle.rules.specs.Refusal.{number_of, is_taken}
+use Rattle.rules.specs.Refusal.{Verdict, number_of}
 use Rattle.rules.specs.Operation.{
   Ran,
   Outcome,
@@ -42,6 +41,7 @@ use Rattle.rules.specs.Operation.{
   opened,
 }
 use Rattle.rules.specs.Call.{called, left}
+use Rattle.rules.proofs.Verdicts.{taken_or_refused}
 use Rattle.rules.specs.Cases.Vocabulary.{
   look,
   lent,
@@ -259,22 +259,22 @@ written_is : (taken : ℕ) (ran : Ran) (reply : List ℕ) → (answering taken r
 written_is taken ran reply = refl
 
 -- a call that is refused, or else done
-abbrev pub briefly : Refusal → State → ℕ → Ran → Brief
-briefly r s taken ran = if is_taken r then brief 0 taken ran.state ran.replies else brief (number_of r) 0 s []
+abbrev pub briefly : Verdict → State → ℕ → Ran → Brief
+briefly (Ok passed) s taken ran = brief 0 taken ran.state ran.replies
+briefly (Err r) s taken ran = brief (number_of r) 0 s []
 
-module _ (r : Refusal) (s : State) (room taken : ℕ) (ran : Ran) where
+module _ (v : Verdict) (s : State) (room taken : ℕ) (ran : Ran) where
   abbrev ends : Outcome
-  ends = let buffer = replicate room lent in unless r s buffer (answering taken ran buffer)
+  ends = let buffer = replicate room lent in unless v s buffer (answering taken ran buffer)
 
-  pub ends_full : look ends ≡ in_full room (briefly r s taken ran)
+  pub ends_full : look ends ≡ in_full room (briefly v s taken ran)
   unfolding unless
   ends_full =
-      true_or_false (is_taken r) (λ e. rw e (rw (drop_lent (length ran.replies) room)))
-      (λ e. rw e (rw (sub-zero room)))
+      taken_or_refused v (λ e. rw e (rw (drop_lent (length ran.replies) room))) (λ r e. rw e (rw (sub-zero room)))
 
-  ends_told : tell ends ≡ briefly r s taken ran
+  ends_told : tell ends ≡ briefly v s taken ran
   unfolding unless
-  ends_told = true_or_false (is_taken r) (λ e. rw e (rw take-append_seam)) (λ e. rw e)
+  ends_told = taken_or_refused v (λ e. rw e (rw take-append_seam)) (λ r e. rw e)
 
   ends_tell : look ends ≡ in_full room (tell ends)
   ends_tell = ends_full ∙ ap (in_full room) (sym ends_told)

@@ -1,4 +1,5 @@
 -- What a call does once it has passed the tests that every call has to pass: sizes, buffers, characters, session, reply room.
+use Rattle.std.specs.Prelude.{Ok, Err}
 use mathlib.Core.Path.{◌≡◌, refl, ◌∙◌}
 use mathlib.Core.Bool.{Bool, true, ◌&&◌}
 use mathlib.Core.List.{List, [], ◌∷◌, ◌++◌}
@@ -6,10 +7,8 @@ use Prim.Native.Nat.{ℕ}
 use lib.Dec.{leb}
 use lib.ListN.{length, replicate}
 use Rattle.words.proofs.Laws.{either, and_left, and_right}
-use Rattle.rules.specs.declared.Refusal.{Refusal}
-use Rattle.rules.specs.declared.Refusal.TheVariants.{Taken}
 use Rattle.rules.specs.Session.{State, reply_room, all_printable, all_marks, session_ok}
-use Rattle.rules.specs.Refusal.{Test, is_taken, verdict, size_tests, state_tests}
+use Rattle.rules.specs.Refusal.{Test, Verdict, verdict, size_tests, state_tests}
 use Rattle.rules.specs.Operation.{Ran, running, taken_of, host_refusal, host_bytes, press_tests, key_ran, one_key}
 use Rattle.rules.specs.Call.{host, key, called}
 use Rattle.rules.specs.Cases.Vocabulary.{look, lent, Brief, in_full}
@@ -27,7 +26,7 @@ unfolding passing verdict
 passed [] us e = refl
 passed (t ∷ ts) us e = rw (and_left t.passes _ e) (passed ts us (and_right t.passes _ e))
 
-all_passed : (ts : List Test) → passing ts ≡ true → verdict ts ≡ Taken
+all_passed : (ts : List Test) → passing ts ≡ true → verdict ts ≡ Ok tt
 unfolding passing verdict
 all_passed [] e = refl
 all_passed (t ∷ ts) e = rw (and_left t.passes _ e) (all_passed ts (and_right t.passes _ e))
@@ -61,7 +60,7 @@ module _ (s : State) (room : ℕ) (e : ready s (replicate room lent) ≡ true) w
       rw (passed sizes (states ++ press_tests s k) sizes_passed ∙ passed states (press_tests s k) states_passed)
       (ends_full (verdict (press_tests s k)) s room 1 (key_ran s k))
 
-  host_passed : host_refusal s buffer ≡ Taken
+  host_passed : host_refusal s buffer ≡ Ok tt
   host_passed = passed sizes states sizes_passed ∙ all_passed states states_passed
 
   room_there : leb (reply_room s.session.frame) (length buffer) ≡ true
@@ -72,11 +71,12 @@ module _ (s : State) (room : ℕ) (e : ready s (replicate room lent) ≡ true) w
       (and_right (session_ok s.session) _ (and_right (all_printable s.screen.chars) _ states_passed)))
 
   -- a host byte is taken
-  pub byte_full : (b : ℕ) → look (called s (host (b ∷ []) buffer)) ≡ in_full room (briefly Taken s 1 (running s (b ∷ [])))
+  pub byte_full : (b : ℕ) → look (called s (host (b ∷ []) buffer)) ≡ in_full room (briefly (Ok tt) s 1 (running s (b ∷ [])))
   unfolding called host_bytes taken_of
-  byte_full b = rw (host_passed, room_there) (ends_full Taken s room 1 (running s (b ∷ [])))
+  byte_full b = rw (host_passed, room_there) (ends_full (Ok tt) s room 1 (running s (b ∷ [])))
 
 -- a refusal leaves the PAD too
-pub pad_kept : (r : Refusal) (s : State) (taken : ℕ) (ran : Ran) → ran.state.session.pad ≡ s.session.pad
-    → (briefly r s taken ran).left.session.pad ≡ s.session.pad
-pad_kept r s taken ran e = either (λ (b : Brief). b.left.session.pad ≡ s.session.pad) (is_taken r) (λ t. e) (λ t. refl)
+pub pad_kept : (v : Verdict) (s : State) (taken : ℕ) (ran : Ran) → ran.state.session.pad ≡ s.session.pad
+    → (briefly v s taken ran).left.session.pad ≡ s.session.pad
+pad_kept (Ok passed) s taken ran e = e
+pad_kept (Err r) s taken ran e = refl

@@ -1,4 +1,5 @@
 -- The reply room: one reply fits into 7C + 2 bytes, that many are needed, and what a call returns keeps to what it was lent.
+use Rattle.std.specs.Prelude.{Ok}
 use mathlib.Core.Path.{◌≡◌, refl, ap}
 use mathlib.Core.Bool.{false}
 use mathlib.Core.List.{List, [], ◌∷◌}
@@ -10,7 +11,6 @@ use lib.Dec.{leb}
 use lib.ListN.{length, take, length-append, length-drop}
 use Rattle.words.proofs.Laws.{either}
 use Rattle.rules.specs.declared.Edition.TheVariants.{September}
-use Rattle.rules.specs.declared.Refusal.TheVariants.{Taken}
 use Rattle.rules.specs.Session.{State, reply_room, fresh_frame}
 use Rattle.rules.specs.Refusal.{is_taken}
 use Rattle.rules.specs.Operation.{Outcome, host_byte, running, unless, taken_of, host_refusal, host_bytes, key_ran}
@@ -66,7 +66,7 @@ replies_fit {s = s} k free (b ∷ bs) =
     (λ e. omega arith)
 
 -- a call that is not refused takes at least one byte, if there is one
-pub takes_some : (s : State) (reply : List ℕ) (b : ℕ) (bs : List ℕ) → host_refusal s reply ≡ Taken
+pub takes_some : (s : State) (reply : List ℕ) (b : ℕ) (bs : List ℕ) → host_refusal s reply ≡ Ok tt
     → 1 ≤ (host_bytes s reply (b ∷ bs)).answer.taken
 unfolding host_bytes unless taken_of
 takes_some s reply b bs e = rw (e, le-leb _ _ (sound_of s (host [] reply) (ap is_taken e)).room) (omega arith)
@@ -94,6 +94,6 @@ pub called_bounded : (s : State) (c : Call) → Bounded c (called s c)
 called_bounded s c =
     called_cases (Bounded c) s c
     (λ t.
-    let fits = written_fits s c (sound_of s c t) in
+    let fits = written_fits s c (sound_of s c (ap is_taken t)) in
     record { taken = taken_fits s c; written = fits; long = simp (length-append, length-drop) (omega arith) })
-    (λ f. record { taken = omega arith; written = omega arith; long = refl })
+    (λ r f. record { taken = omega arith; written = omega arith; long = refl })

@@ -1,4 +1,5 @@
 -- Host bytes one after the other: a run of two inputs, calls that take all they are offered, and a loop over the input.
+use Rattle.std.specs.Prelude.{Ok}
 use mathlib.Core.Path.{◌≡◌, refl, sym, ap, ap₂, ◌∙◌}
 use mathlib.Core.List.{List, [], ◌∷◌, ◌++◌, append_assoc}
 use Prim.Native.Nat.{ℕ, suc, ◌+◌, ◌-◌, ◌≤◌, ◌<◌}
@@ -9,7 +10,6 @@ use lib.Dec.{leb}
 use lib.ListN.{length, length-append, get_or, drop, drop_of_length-le}
 use lib.Seq.{drop-cons, take-length, take-append_seam}
 use Rattle.words.proofs.Laws.{either}
-use Rattle.rules.specs.declared.Refusal.TheVariants.{Taken}
 use Rattle.rules.specs.Session.{State, reply_room}
 use Rattle.rules.specs.Refusal.{is_taken}
 use Rattle.rules.specs.Effect.{Executed}
@@ -92,7 +92,7 @@ silent_taken {s = s} k free (x ∷ xs) ys r e =
 
 -- a call of host bytes that takes all its input
 pub record TakesAll (s : State) (reply input : List ℕ) : Type 0 where
-  pub accepted : host_refusal s reply ≡ Taken
+  pub accepted : host_refusal s reply ≡ Ok tt
   pub whole : taken_of s (length reply) input ≡ length input
 
 module _ {s : State} {reply input : List ℕ} (t : TakesAll s reply input) where

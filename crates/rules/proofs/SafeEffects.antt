@@ -1,6 +1,6 @@
 -- Protection in effect and none of the seven executed: what a host byte does is safe, and what a key does that is not refused.
 -- Most cases only move the cursor or say bytes: there `search` finds each part of `SafeEffect` by itself.
-use Rattle.std.specs.Prelude.{if◌then◌else◌}
+use Rattle.std.specs.Prelude.{if◌then◌else◌, Option, Some, None, Result, Ok, Err, ⊤}
 use mathlib.Core.Path.{◌≡◌, refl}
 use mathlib.Core.Bool.{Bool, true, false, not, ◌&&◌}
 use mathlib.Core.List.{List, [], ◌∷◌}
@@ -26,13 +26,13 @@ use Rattle.rules.specs.declared.Reader.{Reader}
 use Rattle.rules.specs.declared.Pad.{Pad}
 use Rattle.rules.specs.declared.Area.TheVariants.{Unprotected}
 use Rattle.rules.specs.declared.Fault.{Fault}
-use Rattle.rules.specs.declared.Fault.TheVariants.{NoFault, NotAgreed, UnknownCode, OffScreen, TooManyParameters, TooFewParameters, BadValue, BadMap}
+use Rattle.rules.specs.declared.Fault.TheVariants.{NotAgreed, UnknownCode, OffScreen, TooManyParameters, TooFewParameters, BadValue, BadMap}
 use Rattle.rules.specs.declared.Key.{Key}
 use Rattle.rules.specs.declared.Key.TheVariants.{Typed, Back, Tab, Send, Delete, Function, Meaningless}
 use Rattle.rules.specs.declared.Edition.{Edition}
 use Rattle.rules.specs.Session.{View, cursor_cell, screen_end}
 use Rattle.rules.specs.Number.{det_option}
-use Rattle.rules.specs.Command.{Row, rows, Listed, listed, unlisted, reaches, reaches_past}
+use Rattle.rules.specs.Command.{Row, rows, reaches, reaches_past}
 use Rattle.rules.specs.Effect.{Effect, Part}
 use Rattle.rules.specs.Cursor.{cursor_guarded}
 use Rattle.rules.specs.Telnet.{turned, switched_on, switched_off, negotiated, host_character, host_characters, host_data, host_text}
@@ -185,21 +185,21 @@ module _ (v : View) (protecting : v.frame.suppressed ≡ false) where
       -- 36, 37, 38, 41
       and (λ h. past) and (λ h r. safe_characters _ v protecting _) and (λ h. safe_suppressing _) and (λ h r. search) and tt
 
-  safe_judged : (r : Row) → SafeRow r → (h : Held) (f : Fault) → Allowed v.attrs (judged v r h f)
+  safe_judged : (r : Row) → SafeRow r → (h : Held) (f : Result ⊤ Fault) → Allowed v.attrs (judged v r h f)
   unfolding judged none_reaches
-  safe_judged r safe h NoFault = λ x. let e = safe h (not-true _ (and_left _ _ x)) in search
-  safe_judged r safe h NotAgreed = search
-  safe_judged r safe h UnknownCode = search
-  safe_judged r safe h OffScreen = search
-  safe_judged r safe h TooManyParameters = search
-  safe_judged r safe h TooFewParameters = search
-  safe_judged r safe h BadValue = search
-  safe_judged r safe h BadMap = search
+  safe_judged r safe h (Ok passed) = λ x. let e = safe h (not-true _ (and_left _ _ x)) in search
+  safe_judged r safe h (Err NotAgreed) = search
+  safe_judged r safe h (Err UnknownCode) = search
+  safe_judged r safe h (Err OffScreen) = search
+  safe_judged r safe h (Err TooManyParameters) = search
+  safe_judged r safe h (Err TooFewParameters) = search
+  safe_judged r safe h (Err BadValue) = search
+  safe_judged r safe h (Err BadMap) = search
 
-  safe_looked : (l : Listed) → IfListed SafeRow l → (h : Held) → Allowed v.attrs (looked v l h)
+  safe_looked : (l : Option Row) → IfListed SafeRow l → (h : Held) → Allowed v.attrs (looked v l h)
   unfolding looked
-  safe_looked unlisted safe h = search
-  safe_looked (listed r) safe h = safe_judged r safe h _
+  safe_looked None safe h = search
+  safe_looked (Some r) safe h = safe_judged r safe h _
 
   safe_subcommand : (h : Held) → Allowed v.attrs (subcommand v h)
   unfolding subcommand

@@ -9,7 +9,7 @@ use lib.ListN.{length, get_or, replicate}
 use Rattle.telnet.specs.declared.Phase.TheVariants.{Rest, Iac, Negotiating, Opening, OpeningIac, Inside, InsideIac}
 use Rattle.telnet.specs.declared.Verb.TheVariants.{Do}
 use Rattle.rules.specs.Session.{State, screen}
-use Rattle.rules.specs.Refusal.{number_of}
+use Rattle.rules.specs.Refusal.{told_number}
 use Rattle.rules.specs.Operation.{blank, opened}
 use Rattle.rules.specs.Cases.Computing.{computing}
 use Rattle.rules.specs.Cases.Vocabulary.{Case, Trial, Passes, characters, case, opening, starting, at, modes, det_off, maps, asking, reading, after_cr, showing, attributed, unmarked, unchanged, det, verb, see, host_trial, key_trial, refused_trial, heard, struck, observed, expected, seeing}
@@ -485,7 +485,7 @@ unfolding computing seeing opened_cases
 opened_pass = (tt, (tt, (tt, (tt, (tt, (tt, (tt, (tt, (tt, (tt, (tt, tt)))))))))))
 
 -- the largest screen
-pub largest : number_of (opened 132 64 732 (blank 8448)).answer.refusal ≡ 0
+pub largest : told_number (opened 132 64 732 (blank 8448)).answer.verdict ≡ 0
 unfolding computing
 largest = refl
 

@@ -62,6 +62,7 @@ use Rattle.rules.specs.Cases.Vocabulary.{
   expected,
   seeing,
 }
+use Rattle.rules.proofs.Verdicts.{taken_is}
 use Rattle.rules.proofs.Passing.{each_equal, all_pass, same_equal, below_passes, briefly, Swept, everywhere}
 use Rattle.rules.proofs.Ready.{passing, ready, key_full, pad_kept}
 -- the cases of document 01 are checked first
@@ -300,7 +301,7 @@ line_pad k e =
     true_or_false (ltb k 128)
     (λ t.
     let a : alone k ≡ true = rw t at e in
-    rw (t, and_left (is_taken (verdict (line_tests taking.session.pad k))) _ a)
+    rw (t, taken_is (verdict (line_tests taking.session.pad k)) (and_left (is_taken (verdict (line_tests taking.session.pad k))) _ a))
     (rw (same_equal _ (k ∷ []) (and_right (is_taken (verdict (line_tests taking.session.pad k))) _ a))))
     (λ t. pad_kept (verdict (press_tests taking k)) taking 1 (key_ran taking k) (rw t) ∙ rw t)
 

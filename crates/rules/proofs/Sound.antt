@@ -1,5 +1,6 @@
 -- What refusals 1 to 4 ask holds after an open, and stays so.
-use mathlib.Core.Path.{◌≡◌, refl}
+use Rattle.std.specs.Prelude.{Ok, Err}
+use mathlib.Core.Path.{◌≡◌, refl, ap}
 use mathlib.Core.Bool.{Bool, true, false, not, ◌&&◌, ◌||◌}
 use mathlib.Core.List.{List, [], ◌∷◌, ◌++◌}
 use Prim.Native.Nat.{ℕ, zero, suc, ◌*◌, ◌≤◌}
@@ -15,13 +16,14 @@ use Rattle.telnet.specs.declared.Event.TheVariants.{Nothing, Data, Negotiation, 
 use Rattle.rules.specs.declared.Held.{Held}
 use Rattle.rules.specs.declared.Frame.{Frame}
 use Rattle.rules.specs.declared.Edition.TheVariants.{September}
-use Rattle.rules.specs.declared.Refusal.TheVariants.{Taken, Size}
+use Rattle.rules.specs.declared.Refusal.TheVariants.{Size}
 use Rattle.rules.specs.Session.{Screen, State, cells, reply_room, x3_cells, fresh_frame, fresh, state, view_of, all_printable, session_ok}
 use Rattle.rules.specs.Edition.{edition_of}
 use Rattle.rules.specs.Refusal.{is_taken, Test, verdict, size_test, buffer_test, open_tests, size_tests, state_tests}
 use Rattle.rules.specs.Telnet.{holding, held_after}
 use Rattle.rules.specs.Operation.{Outcome, host_byte, running, unless, host_refusal, host_bytes, press_tests, key_ran, one_key, opened}
 use Rattle.rules.specs.Call.{Call, host, key, called, left, state_after}
+use Rattle.rules.proofs.Verdicts.{taken_or_refused}
 use Rattle.rules.proofs.Refusals.{asked}
 use Rattle.rules.proofs.Calls.{reply_of, refusal_by, ran_by, called_cases}
 use Rattle.rules.proofs.Characters.{Text}
@@ -90,7 +92,7 @@ sound_ran k (key code reply) = sound_key k code
 
 -- a call, refused or not
 pub sound_called : {m n : ℕ} {s : State} → Sound m n s → (c : Call) → Sound m n (left (called s c))
-sound_called {m} {n} {s} k c = called_cases (λ o. Sound m n (left o)) s c (λ t. sound_ran k c) (λ f. k)
+sound_called {m} {n} {s} k c = called_cases (λ o. Sound m n (left o)) s c (λ t. sound_ran k c) (λ r f. k)
 
 -- calls
 pub sound_after : {m n : ℕ} {s : State} → Sound m n s → (calls : List Call) → Sound m n (state_after s calls)
@@ -122,16 +124,16 @@ sizes_of : (f : Frame) (b : Screen) (others : List Test) → is_taken (verdict (
     → Sizes f b × (is_taken (verdict others) ≡ true)
 unfolding size_tests
 sizes_of f b others e =
-    let size = asked _ _ refl e in
-    let buffers = asked _ _ refl size.1 in
+    let size = asked _ _ e in
+    let buffers = asked _ _ size.1 in
     (both_sizes f b size.0 buffers.0, buffers.1)
 
 open_sizes : (f : Frame) (named : ℕ) (b : Screen) → is_taken (verdict (open_tests f named b)) ≡ true → Sizes f b
 unfolding open_tests
 open_sizes f named b e =
-    let size = asked _ _ refl e in
-    let edition = asked _ _ refl size.1 in
-    let buffers = asked _ _ refl edition.1 in
+    let size = asked _ _ e in
+    let edition = asked _ _ size.1 in
+    let buffers = asked _ _ edition.1 in
     both_sizes f b size.0 buffers.0
 
 -- what refusals 1 to 5 and 11 ask
@@ -146,10 +148,10 @@ unfolding state_tests session_ok
 accepted s reply others e =
     let f = s.session.frame in
     let z = sizes_of _ _ _ e in
-    let text = asked _ _ refl z.1 in
-    let session = asked _ _ refl text.1 in
-    let small = asked _ _ refl session.1 in
-    let room = asked _ _ refl small.1 in
+    let text = asked _ _ z.1 in
+    let session = asked _ _ text.1 in
+    let small = asked _ _ session.1 in
+    let room = asked _ _ small.1 in
     let o = halves (on_screen f.width f.height f.cursor) _ session.0 in
     let p = halves (ltb f.cursor.x.0 f.width) (ltb f.cursor.y.0 f.height) o.0 in
     let h = halves (leb s.session.reader.held.count 6) _ o.1 in
@@ -174,7 +176,7 @@ sound_of s (key code reply) e = accepted s reply (press_tests s code) e
 
 -- and host bytes that find these are not refused
 pub passes : {m n : ℕ} {s : State} → Sound m n s → (reply : List ℕ) → reply_room s.session.frame ≤ length reply
-    → host_refusal s reply ≡ Taken
+    → host_refusal s reply ≡ Ok tt
 unfolding verdict size_tests state_tests session_ok
 passes {m} {n} {s} k reply r =
     let v = k.view in
@@ -193,19 +195,20 @@ unfolding all_printable
 spaces_printable zero = refl
 spaces_printable (suc n) = spaces_printable n
 
-no_screen : (b : Screen) (c : Call) → (called (state (fresh 0 0 September) b) c).answer.refusal ≡ Size
+no_screen : (b : Screen) (c : Call) → (called (state (fresh 0 0 September) b) c).answer.verdict ≡ Err Size
 unfolding called host_bytes one_key unless verdict size_tests
 no_screen b (host input reply) = refl
 no_screen b (key code reply) = refl
 
 module _ (m n named : ℕ) (b : Screen) where
   -- an open that is not refused
-  pub sound_open : (opened m n named b).answer.refusal ≡ Taken → Sound m n (left (opened m n named b))
+  pub sound_open : (opened m n named b).answer.verdict ≡ Ok tt → Sound m n (left (opened m n named b))
   unfolding opened unless
   sound_open =
-      either (λ o. o.answer.refusal ≡ Taken → Sound m n (left o)) (is_taken (verdict (open_tests (fresh_frame m n (edition_of named)) named b)))
-      (λ t e.
-      let z = open_sizes (fresh_frame m n (edition_of named)) named b t in
+      taken_or_refused (verdict (open_tests (fresh_frame m n (edition_of named)) named b))
+      (λ t. rw t
+      (λ e.
+      let z = open_sizes (fresh_frame m n (edition_of named)) named b (ap is_taken t) in
       record {
         view = record {
           sizes = omega arith;
@@ -217,16 +220,16 @@ module _ (m n named : ℕ) (b : Screen) where
         pad = fresh_pad_lem;
         chars = record { long = length-replicate (n * m) 32; printing = spaces_printable (n * m) };
         marks = record { long = length-replicate (n * m) 0; small = no_marks (n * m) };
-      })
-      (λ f e. not_both (is_taken (verdict (open_tests (fresh_frame m n (edition_of named)) named b))) (rw e) f)
+      }))
+      (λ r f. rw f (λ e. cc))
 
-  refused_open : ((opened m n named b).answer.refusal ≡ Taken → ⊥) → (opened m n named b).answer.session ≡ fresh 0 0 September
+  refused_open : ((opened m n named b).answer.verdict ≡ Ok tt → ⊥) → (opened m n named b).answer.session ≡ fresh 0 0 September
   unfolding opened unless
   refused_open =
-      either (λ (o : Outcome). (o.answer.refusal ≡ Taken → ⊥) → o.answer.session ≡ fresh 0 0 September)
-      (is_taken (verdict (open_tests (fresh_frame m n (edition_of named)) named b))) (λ t r. absurd (r refl)) (λ f r. refl)
+      taken_or_refused (verdict (open_tests (fresh_frame m n (edition_of named)) named b)) (λ t. rw t (λ r. absurd (r refl)))
+      (λ why f. rw f (λ r. refl))
 
   -- a refused open's session is refused by every call, with 1, whatever is lent
-  pub refused_open_refused : ((opened m n named b).answer.refusal ≡ Taken → ⊥) → (again : Screen) (c : Call)
-      → (called (state (opened m n named b).answer.session again) c).answer.refusal ≡ Size
+  pub refused_open_refused : ((opened m n named b).answer.verdict ≡ Ok tt → ⊥) → (again : Screen) (c : Call)
+      → (called (state (opened m n named b).answer.session again) c).answer.verdict ≡ Err Size
   refused_open_refused r again c = rw (refused_open r) (no_screen again c)

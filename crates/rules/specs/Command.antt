@@ -1,6 +1,6 @@
 -- Document 01, "Subcommands", and document 02, requests (ii), (iii), (v) and (vi): the list of commands, what governs each, the ERROR
 -- that one draws, and the seven that reach past protection.
-use Rattle.std.specs.Prelude.{Bool, true, false, not, ◌&&◌, List, [], ◌∷◌, ℕ, suc, ◌+◌, ◌*◌, leb, ltb, eqb, get_or, if◌then◌else◌}
+use Rattle.std.specs.Prelude.{Bool, true, false, not, ◌&&◌, List, [], ◌∷◌, ℕ, suc, ◌+◌, ◌*◌, leb, ltb, eqb, get_or, if◌then◌else◌, Option, Some, None, Result, Ok, Err, ⊤}
 use Rattle.telnet.specs.Reader.{verb_code}
 use Rattle.telnet.specs.declared.Verb.TheVariants.{Will, Do, Dont}
 use Rattle.edit.specs.declared.range.Shift.TheVariants.{Insertion, Deletion}
@@ -38,13 +38,10 @@ use Rattle.rules.specs.declared.Command.TheVariants.{
   Error,
 }
 use Rattle.rules.specs.declared.Governor.{Governor}
-use Rattle.rules.specs.declared.Governor.TheVariants.{Ungoverned}
 use Rattle.rules.specs.declared.Edition.{Edition}
 use Rattle.rules.specs.declared.Code.{Code}
-use Rattle.rules.specs.declared.Code.TheVariants.{Known, Unknown}
 use Rattle.rules.specs.declared.Fault.{Fault}
 use Rattle.rules.specs.declared.Fault.TheVariants.{
-  NoFault,
   NotAgreed,
   OffScreen,
   TooManyParameters,
@@ -90,10 +87,10 @@ pub record Row : Type 0 where
   pub code : ℕ
   pub command : Command
   pub parameters : ℕ
-  pub governor : Governor
+  pub governor : Option Governor
   pub past : Reach
 
-abbrev pub row : ℕ → Command → ℕ → Governor → Reach → Row
+abbrev pub row : ℕ → Command → ℕ → Option Governor → Reach → Row
 row code command parameters governor past =
     record { code = code; command = command; parameters = parameters; governor = governor; past = past }
 
@@ -102,25 +99,25 @@ row code command parameters governor past =
 -- other codes draw ERROR 2.
 unfoldable pub rows : List Row
 rows =
-    row 1 (Facilities Editing) 1 Ungoverned never
-    ∷ row 2 (Facilities Erasing) 1 Ungoverned never
-    ∷ row 3 (Facilities Transmitting) 1 Ungoverned never
-    ∷ row 4 (Facilities Formatting) 2 Ungoverned never
-    ∷ row 5 MoveCursor 2 Ungoverned never
+    row 1 (Facilities Editing) 1 None never
+    ∷ row 2 (Facilities Erasing) 1 None never
+    ∷ row 3 (Facilities Transmitting) 1 None never
+    ∷ row 4 (Facilities Formatting) 2 None never
+    ∷ row 5 MoveCursor 2 None never
     ∷ row 6 SkipToLine 1 toroidal_addressing never
     ∷ row 7 SkipToChar 1 toroidal_addressing never
     ∷ row 8 (Move Up) 0 incremental_addressing never
     ∷ row 9 (Move Down) 0 incremental_addressing never
     ∷ row 10 (Move Left) 0 incremental_addressing never
     ∷ row 11 (Move Right) 0 incremental_addressing never
-    ∷ row 12 (Move Home) 0 Ungoverned never
+    ∷ row 12 (Move Home) 0 None never
     ∷ row 13 (LineShift Insertion) 0 line_insert_delete never
     ∷ row 14 (LineShift Deletion) 0 line_insert_delete never
     ∷ row 15 (CharShift Insertion) 0 char_insert_delete never
     ∷ row 16 (CharShift Deletion) 0 char_insert_delete never
     ∷ row 17 ReadCursor 0 read_cursor_address never
     ∷ row 19 (Move ReverseTab) 0 back_tab never
-    ∷ row 20 (Transmit WholeScreen) 0 Ungoverned always
+    ∷ row 20 (Transmit WholeScreen) 0 None always
     ∷ row 21 (Transmit Unprotected) 0 protection_facility never
     ∷ row 22 (Transmit WholeLine) 0 transmit_line always
     ∷ row 23 (Transmit WholeField) 0 transmit_field never
@@ -128,36 +125,32 @@ rows =
     ∷ row 25 (Transmit RestOfLine) 0 transmit_rest_of_line always
     ∷ row 26 (Transmit RestOfField) 0 transmit_rest_of_field never
     ∷ row 27 TransmitModified 0 modified_facility never
-    ∷ row 29 (Erase WholeScreen) 0 Ungoverned always
+    ∷ row 29 (Erase WholeScreen) 0 None always
     ∷ row 30 (Erase WholeLine) 0 erase_line never
     ∷ row 31 (Erase WholeField) 0 erase_field never
     ∷ row 32 (Erase RestOfScreen) 0 erase_rest_of_screen never
     ∷ row 33 (Erase RestOfLine) 0 erase_rest_of_line never
     ∷ row 34 (Erase RestOfField) 0 erase_rest_of_field never
     ∷ row 35 (Erase Unprotected) 0 protection_facility never
-    ∷ row 36 FormatData 4 Ungoverned always
+    ∷ row 36 FormatData 4 None always
     ∷ row 37 Repeat 2 repeating never
     ∷ row 38 SuppressProtection 1 protection_on_off (only_with (verb_code Do))
-    ∷ row 41 Error 2 Ungoverned never
+    ∷ row 41 Error 2 None never
     ∷ []
 
--- a code is in the list, or is not
-pub data Listed : Type 0 where
-  listed : Row → Listed
-  unlisted : Listed
-
-unfoldable pub row_in : List Row → ℕ → Listed
-row_in [] code = unlisted
-row_in (r ∷ rs) code = if eqb code r.code then listed r else row_in rs code
+-- a code's row, if it is in the list
+unfoldable pub row_in : List Row → ℕ → Option Row
+row_in [] code = None
+row_in (r ∷ rs) code = if eqb code r.code then Some r else row_in rs code
 
 -- what a code received stands for in an edition (request (vi))
-abbrev pub row_of : Edition → ℕ → Listed
+abbrev pub row_of : Edition → ℕ → Option Row
 row_of e code = row_in rows (meant_by e code)
 
 -- what the list says of a code
-unfoldable pub meaning : Listed → Code
-meaning (listed r) = Known r.command r.parameters r.governor
-meaning unlisted = Unknown
+unfoldable pub meaning : Option Row → Option Code
+meaning (Some r) = Some (record { command = r.command; parameters = r.parameters; governor = r.governor })
+meaning None = None
 
 -- ---- a command's bytes
 
@@ -188,31 +181,31 @@ reaches_past r h = reaches r.past (parameter h 0)
 -- ---- ERROR
 
 -- the ERROR that the parameters' values draw, their count being right
-unfoldable pub value_fault : View → Command → Held → Fault
-value_fault v MoveCursor h = if on_screen v.frame.width v.frame.height (place_in h) then NoFault else OffScreen
+unfoldable pub value_fault : View → Command → Held → Result ⊤ Fault
+value_fault v MoveCursor h = if on_screen v.frame.width v.frame.height (place_in h) then Ok tt else Err OffScreen
 value_fault v FormatData h =
-    if not (leb (parameter h 0) 31 && eqb (parameter h 1) 0) then BadMap
-    else if leb (cursor_cell v + format_count h) (screen_end v) then NoFault
-    else BadValue
-value_fault v Repeat h = if printable (parameter h 1) then NoFault else BadValue
-value_fault v SuppressProtection h = if between (verb_code Will) (verb_code Dont) (parameter h 0) then NoFault else BadValue
-value_fault v (Facilities facility) h = NoFault
-value_fault v SkipToLine h = NoFault
-value_fault v SkipToChar h = NoFault
-value_fault v (Move to) h = NoFault
-value_fault v (LineShift s) h = NoFault
-value_fault v (CharShift s) h = NoFault
-value_fault v ReadCursor h = NoFault
-value_fault v (Transmit area) h = NoFault
-value_fault v TransmitModified h = NoFault
-value_fault v (Erase area) h = NoFault
-value_fault v Error h = NoFault
+    if not (leb (parameter h 0) 31 && eqb (parameter h 1) 0) then Err BadMap
+    else if leb (cursor_cell v + format_count h) (screen_end v) then Ok tt
+    else Err BadValue
+value_fault v Repeat h = if printable (parameter h 1) then Ok tt else Err BadValue
+value_fault v SuppressProtection h = if between (verb_code Will) (verb_code Dont) (parameter h 0) then Ok tt else Err BadValue
+value_fault v (Facilities facility) h = Ok tt
+value_fault v SkipToLine h = Ok tt
+value_fault v SkipToChar h = Ok tt
+value_fault v (Move to) h = Ok tt
+value_fault v (LineShift s) h = Ok tt
+value_fault v (CharShift s) h = Ok tt
+value_fault v ReadCursor h = Ok tt
+value_fault v (Transmit area) h = Ok tt
+value_fault v TransmitModified h = Ok tt
+value_fault v (Erase area) h = Ok tt
+value_fault v Error h = Ok tt
 
 -- Check order, the code being known: its facility agreed, else 1; parameter count, else 10 (too few) or 9 (too many); then values. The
 -- code is among the bytes held.
-unfoldable pub fault_of : View → Command → ℕ → Governor → Held → Fault
+unfoldable pub fault_of : View → Command → ℕ → Option Governor → Held → Result ⊤ Fault
 fault_of v c parameters governor h =
-    if not (agreed v.frame.edition v.frame.received governor) then NotAgreed
-    else if ltb h.count (parameters + 1) then TooFewParameters
-    else if ltb (parameters + 1) h.count then TooManyParameters
+    if not (agreed v.frame.edition v.frame.received governor) then Err NotAgreed
+    else if ltb h.count (parameters + 1) then Err TooFewParameters
+    else if ltb (parameters + 1) h.count then Err TooManyParameters
     else value_fault v c h

@@ -1,6 +1,6 @@
 -- Document 01, the end of "Subcommands": which commands are executed, and which of them reach past protection. The premise of demand 3,
 -- in the codes of either edition (document 02, request (vi)). Nothing here is used by the rules: these are sentences about them.
-use Rattle.std.specs.Prelude.{◌≡◌, Bool, true, false, not, ◌&&◌, ◌||◌, List, [], ◌∷◌, ◌++◌, ℕ, eqb, get_or, take}
+use Rattle.std.specs.Prelude.{◌≡◌, Bool, true, false, not, ◌&&◌, ◌||◌, List, [], ◌∷◌, ◌++◌, ℕ, eqb, get_or, take, Some, None, Ok}
 use Rattle.telnet.specs.declared.Event.{Event}
 use Rattle.telnet.specs.declared.Event.TheVariants.{End}
 use Rattle.telnet.specs.Reader.{read_of}
@@ -9,11 +9,9 @@ use Rattle.rules.specs.declared.Edition.{Edition}
 use Rattle.rules.specs.declared.Edition.TheVariants.{June, September}
 use Rattle.rules.specs.declared.Reader.{Reader}
 use Rattle.rules.specs.declared.Pad.{Pad}
-use Rattle.rules.specs.declared.Refusal.TheVariants.{Taken}
-use Rattle.rules.specs.declared.Fault.TheVariants.{NoFault}
 use Rattle.rules.specs.Session.{View, State, view_of}
 use Rattle.rules.specs.Effect.{Executed}
-use Rattle.rules.specs.Command.{Row, listed, unlisted, row_of, code_in, reaches_past, fault_of}
+use Rattle.rules.specs.Command.{Row, row_of, code_in, reaches_past, fault_of}
 use Rattle.rules.specs.Facility.{agreed}
 use Rattle.rules.specs.Subcommand.{subcommand}
 use Rattle.rules.specs.Operation.{happening, host_byte, running}
@@ -36,21 +34,21 @@ is_seven June code first = one_of (20 ∷ 22 ∷ 24 ∷ 25 ∷ 28 ∷ 35 ∷ [])
 abbrev pub Seven : Type 0
 Seven =
     (e : Edition) (code : ℕ) (r : Row) (h : Held)
-    → row_of e code ≡ listed r → reaches_past r h ≡ is_seven e code (get_or h.bytes 1 0)
+    → row_of e code ≡ Some r → reaches_past r h ≡ is_seven e code (get_or h.bytes 1 0)
 
 -- ---- what a subcommand executes: itself where its code is in the list, its facility is agreed and it draws no ERROR, and else nothing
 
 pub record SubcommandExecutes (v : View) (h : Held) : Type 0 where
-  pub itself : (r : Row) → row_of v.frame.edition (code_in h) ≡ listed r → eqb h.count 0 ≡ false
-      → fault_of v r.command r.parameters r.governor h ≡ NoFault
+  pub itself : (r : Row) → row_of v.frame.edition (code_in h) ≡ Some r → eqb h.count 0 ≡ false
+      → fault_of v r.command r.parameters r.governor h ≡ Ok tt
       → (subcommand v h).executed ≡ record { row = r; held = h } ∷ []
-  pub no_error : (r : Row) → row_of v.frame.edition (code_in h) ≡ listed r
-      → (fault_of v r.command r.parameters r.governor h ≡ NoFault → ⊥)
+  pub no_error : (r : Row) → row_of v.frame.edition (code_in h) ≡ Some r
+      → (fault_of v r.command r.parameters r.governor h ≡ Ok tt → ⊥)
       → (subcommand v h).executed ≡ []
-  pub not_agreed : (r : Row) → row_of v.frame.edition (code_in h) ≡ listed r
+  pub not_agreed : (r : Row) → row_of v.frame.edition (code_in h) ≡ Some r
       → agreed v.frame.edition v.frame.received r.governor ≡ false
       → (subcommand v h).executed ≡ []
-  pub no_code : row_of v.frame.edition (code_in h) ≡ unlisted → (subcommand v h).executed ≡ []
+  pub no_code : row_of v.frame.edition (code_in h) ≡ None → (subcommand v h).executed ≡ []
   pub no_byte : eqb h.count 0 ≡ true → (subcommand v h).executed ≡ []
 
 -- ---- what the reader's news executes: the end of a subnegotiation of option 20 while DET is on, and nothing else
@@ -75,7 +73,7 @@ pub record CallExecutes (s : State) : Type 0 where
   pub taken : (input reply : List ℕ)
       → executed_by s (host input reply) ≡ (running s (take (called s (host input reply)).answer.taken input)).executed
   pub a_key : (k : ℕ) (reply : List ℕ) → executed_by s (key k reply) ≡ []
-  pub refused : (c : Call) → ((called s c).answer.refusal ≡ Taken → ⊥) → executed_by s c ≡ []
+  pub refused : (c : Call) → ((called s c).answer.verdict ≡ Ok tt → ⊥) → executed_by s c ≡ []
   pub no_calls : executed_of s [] ≡ []
   pub more_calls : (c : Call) (cs : List Call) → executed_of s (c ∷ cs) ≡ executed_by s c ++ executed_of (left (called s c)) cs
 

@@ -1,12 +1,12 @@
 -- Document 01, "Subcommands", 1 to 4, and document 02, requests (ii), (iii), (v) and (vi): facilities. What a bit of a map stands for, by
 -- "Facility Functions" in section 2 of source documents 003 and 000; the maps that the terminal sends; and what is agreed, by section 5
 -- of 000.
-use Rattle.std.specs.Prelude.{Bool, true, ◌&&◌, List, [], ◌∷◌, ℕ, zero, suc, ◌*◌}
+use Rattle.std.specs.Prelude.{Bool, true, ◌&&◌, List, [], ◌∷◌, ℕ, zero, suc, ◌*◌, Option, Some, None}
 use Rattle.words.specs.Words.{bit}
 use Rattle.rules.specs.declared.Facility.{Facility}
 use Rattle.rules.specs.declared.Facility.TheVariants.{Editing, Erasing, Transmitting, Formatting}
 use Rattle.rules.specs.declared.Governor.{Governor}
-use Rattle.rules.specs.declared.Governor.TheVariants.{Ungoverned, EditBit, EraseBit, TransmitBit, Format0Bit, Format1Bit}
+use Rattle.rules.specs.declared.Governor.TheVariants.{EditBit, EraseBit, TransmitBit, Format0Bit, Format1Bit}
 use Rattle.rules.specs.declared.Maps.{Maps}
 use Rattle.rules.specs.declared.Edition.{Edition}
 use Rattle.rules.specs.declared.Edition.TheVariants.{June, September}
@@ -19,69 +19,69 @@ weight zero = 1
 weight (suc n) = 2 * weight n
 
 -- class 1, editing
-abbrev pub toroidal_addressing : Governor
-toroidal_addressing = EditBit (weight 6)
+abbrev pub toroidal_addressing : Option Governor
+toroidal_addressing = Some (EditBit (weight 6))
 
-abbrev pub incremental_addressing : Governor
-incremental_addressing = EditBit (weight 5)
+abbrev pub incremental_addressing : Option Governor
+incremental_addressing = Some (EditBit (weight 5))
 
-abbrev pub read_cursor_address : Governor
-read_cursor_address = EditBit (weight 4)
+abbrev pub read_cursor_address : Option Governor
+read_cursor_address = Some (EditBit (weight 4))
 
-abbrev pub line_insert_delete : Governor
-line_insert_delete = EditBit (weight 3)
+abbrev pub line_insert_delete : Option Governor
+line_insert_delete = Some (EditBit (weight 3))
 
-abbrev pub char_insert_delete : Governor
-char_insert_delete = EditBit (weight 2)
+abbrev pub char_insert_delete : Option Governor
+char_insert_delete = Some (EditBit (weight 2))
 
-abbrev pub back_tab : Governor
-back_tab = EditBit (weight 1)
+abbrev pub back_tab : Option Governor
+back_tab = Some (EditBit (weight 1))
 
 -- class 2, erasing: the field has bit 4, the line bit 3
-abbrev pub erase_field : Governor
-erase_field = EraseBit (weight 4)
+abbrev pub erase_field : Option Governor
+erase_field = Some (EraseBit (weight 4))
 
-abbrev pub erase_line : Governor
-erase_line = EraseBit (weight 3)
+abbrev pub erase_line : Option Governor
+erase_line = Some (EraseBit (weight 3))
 
-abbrev pub erase_rest_of_screen : Governor
-erase_rest_of_screen = EraseBit (weight 2)
+abbrev pub erase_rest_of_screen : Option Governor
+erase_rest_of_screen = Some (EraseBit (weight 2))
 
-abbrev pub erase_rest_of_line : Governor
-erase_rest_of_line = EraseBit (weight 1)
+abbrev pub erase_rest_of_line : Option Governor
+erase_rest_of_line = Some (EraseBit (weight 1))
 
-abbrev pub erase_rest_of_field : Governor
-erase_rest_of_field = EraseBit (weight 0)
+abbrev pub erase_rest_of_field : Option Governor
+erase_rest_of_field = Some (EraseBit (weight 0))
 
 -- class 3, transmitting: the line has bit 4, the field bit 3
-abbrev pub transmit_line : Governor
-transmit_line = TransmitBit (weight 4)
+abbrev pub transmit_line : Option Governor
+transmit_line = Some (TransmitBit (weight 4))
 
-abbrev pub transmit_field : Governor
-transmit_field = TransmitBit (weight 3)
+abbrev pub transmit_field : Option Governor
+transmit_field = Some (TransmitBit (weight 3))
 
-abbrev pub transmit_rest_of_screen : Governor
-transmit_rest_of_screen = TransmitBit (weight 2)
+abbrev pub transmit_rest_of_screen : Option Governor
+transmit_rest_of_screen = Some (TransmitBit (weight 2))
 
-abbrev pub transmit_rest_of_line : Governor
-transmit_rest_of_line = TransmitBit (weight 1)
+abbrev pub transmit_rest_of_line : Option Governor
+transmit_rest_of_line = Some (TransmitBit (weight 1))
 
-abbrev pub transmit_rest_of_field : Governor
-transmit_rest_of_field = TransmitBit (weight 0)
+abbrev pub transmit_rest_of_field : Option Governor
+transmit_rest_of_field = Some (TransmitBit (weight 0))
 
 -- class 4, formatting: its first byte, then its second
-abbrev pub modified_facility : Governor
-modified_facility = Format0Bit (weight 6)
+abbrev pub modified_facility : Option Governor
+modified_facility = Some (Format0Bit (weight 6))
 
-abbrev pub repeating : Governor
-repeating = Format0Bit (weight 4)
+abbrev pub repeating : Option Governor
+repeating = Some (Format0Bit (weight 4))
 
-abbrev pub protection_on_off : Governor
-protection_on_off = Format1Bit (weight 6)
+abbrev pub protection_on_off : Option Governor
+protection_on_off = Some (Format1Bit (weight 6))
 
 -- protection brings TRANSMIT UNPROTECTED and ERASE UNPROTECTED with it
-abbrev pub protection_facility : Governor
-protection_facility = Format1Bit (weight 5)
+abbrev pub protection_facility : Option Governor
+protection_facility = Some (Format1Bit (weight 5))
 
 -- ---- what is agreed
 
@@ -113,10 +113,10 @@ abbrev pub in_both : ℕ → ℕ → ℕ → Bool
 in_both w received own = bit w received && bit w own
 
 -- a command that no bit governs needs none
-unfoldable pub agreed : Edition → Maps → Governor → Bool
-agreed e m Ungoverned = true
-agreed e m (EditBit w) = in_both w m.edit (own_maps e).edit
-agreed e m (EraseBit w) = in_both w m.erase (own_maps e).erase
-agreed e m (TransmitBit w) = in_both w m.transmit (own_maps e).transmit
-agreed e m (Format0Bit w) = in_both w m.format0 (own_maps e).format0
-agreed e m (Format1Bit w) = in_both w m.format1 (own_maps e).format1
+unfoldable pub agreed : Edition → Maps → Option Governor → Bool
+agreed e m None = true
+agreed e m (Some (EditBit w)) = in_both w m.edit (own_maps e).edit
+agreed e m (Some (EraseBit w)) = in_both w m.erase (own_maps e).erase
+agreed e m (Some (TransmitBit w)) = in_both w m.transmit (own_maps e).transmit
+agreed e m (Some (Format0Bit w)) = in_both w m.format0 (own_maps e).format0
+agreed e m (Some (Format1Bit w)) = in_both w m.format1 (own_maps e).format1

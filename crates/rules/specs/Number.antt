@@ -3,7 +3,6 @@
 use Rattle.std.specs.Prelude.{ℕ}
 use Rattle.rules.specs.declared.Fault.{Fault}
 use Rattle.rules.specs.declared.Fault.TheVariants.{
-  NoFault,
   NotAgreed,
   UnknownCode,
   OffScreen,
@@ -45,9 +44,8 @@ fn = 40
 abbrev pub error : ℕ
 error = 41
 
--- ERROR's numbers; 0 where there is none
+-- ERROR's numbers
 abbrev pub fault_number : Fault → ℕ
-fault_number NoFault = 0
 fault_number NotAgreed = 1
 fault_number UnknownCode = 2
 fault_number OffScreen = 3

@@ -1,5 +1,5 @@
 -- Document 01, "Sizes and lent memory": the three operations, open, host bytes, one key. Document 02, request (vi): open with an edition.
-use Rattle.std.specs.Prelude.{◌&&◌, List, [], ◌∷◌, ◌++◌, ℕ, suc, ◌-◌, leb, eqb, length, take, drop, replicate, if◌then◌else◌}
+use Rattle.std.specs.Prelude.{◌&&◌, List, [], ◌∷◌, ◌++◌, ℕ, suc, ◌-◌, leb, eqb, length, take, drop, replicate, if◌then◌else◌, Ok, Err}
 use Rattle.telnet.specs.declared.Event.{Event}
 use Rattle.telnet.specs.declared.Event.TheVariants.{Nothing, Data, Negotiation, Begin, Sub, End, EndBare, Lost}
 use Rattle.telnet.specs.Reader.{read_of}
@@ -7,12 +7,11 @@ use Rattle.rules.specs.declared.Reader.{Reader}
 use Rattle.rules.specs.declared.Pad.{Pad}
 use Rattle.rules.specs.declared.Edition.TheVariants.{September}
 use Rattle.rules.specs.declared.Refusal.{Refusal}
-use Rattle.rules.specs.declared.Refusal.TheVariants.{Taken}
 use Rattle.rules.specs.declared.Answer.{Answer}
 use Rattle.rules.specs.Session.{Screen, State, View, cells, reply_room, session, fresh_frame, fresh, screen, state, view_of}
 use Rattle.rules.specs.Number.{det_option}
 use Rattle.rules.specs.Edition.{edition_of}
-use Rattle.rules.specs.Refusal.{Test, is_taken, verdict, open_tests, size_tests, state_tests}
+use Rattle.rules.specs.Refusal.{Test, Verdict, is_taken, verdict, open_tests, size_tests, state_tests}
 use Rattle.rules.specs.Effect.{Effect, Executed, changed_all, marks_after, spelled_all, saying, quiet}
 use Rattle.rules.specs.Telnet.{held_after, cr_after, negotiated, host_data}
 use Rattle.rules.specs.Pad.{pad_after, response, takes_key, line_tests, pad_typed, typed_to, passes}
@@ -88,17 +87,18 @@ outcome answer b reply = record { answer = answer; screen = b; reply = reply }
 
 -- the number, the session unchanged, counts of 0, and no lent buffer changed
 abbrev pub refusing : Refusal → State → List ℕ → Outcome
-refusing r s reply = outcome (record { session = s.session; refusal = r; taken = 0; written = 0 }) s.screen reply
+refusing r s reply = outcome (record { session = s.session; verdict = Err r; taken = 0; written = 0 }) s.screen reply
 
 -- the replies stand at the buffer's start; the bytes past those written stay as lent
 abbrev pub answering : ℕ → Ran → List ℕ → Outcome
 answering taken r reply =
-    outcome (record { session = r.state.session; refusal = Taken; taken = taken; written = length r.replies }) r.state.screen
+    outcome (record { session = r.state.session; verdict = Ok tt; taken = taken; written = length r.replies }) r.state.screen
     (r.replies ++ drop (length r.replies) reply)
 
 -- refused, or else done
-unfoldable pub unless : Refusal → State → List ℕ → Outcome → Outcome
-unless r s reply done = if is_taken r then done else refusing r s reply
+unfoldable pub unless : Verdict → State → List ℕ → Outcome → Outcome
+unless (Ok taken) s reply done = done
+unless (Err r) s reply done = refusing r s reply
 
 -- ---- host bytes
 
@@ -110,7 +110,7 @@ taken_of s free (b ∷ bs) =
     let rest = taken_of one.state (free - length one.replies) bs in
     if leb (reply_room s.session.frame) free then suc rest else 0
 
-abbrev pub host_refusal : State → List ℕ → Refusal
+abbrev pub host_refusal : State → List ℕ → Verdict
 host_refusal s reply = verdict (size_tests s.session.frame s.screen ++ state_tests s.session s.screen reply)
 
 abbrev pub host_ran : State → List ℕ → List ℕ → Ran
@@ -136,7 +136,7 @@ press_effect s k =
 abbrev pub pad_pressed : State → ℕ → Pad
 pad_pressed s k = let p = s.session.pad in if takes_key s.session.frame k then pad_typed p k else p
 
-abbrev pub key_refusal : State → List ℕ → ℕ → Refusal
+abbrev pub key_refusal : State → List ℕ → ℕ → Verdict
 key_refusal s reply k =
     verdict
     (size_tests s.session.frame s.screen ++ (state_tests s.session s.screen reply ++ press_tests s k))

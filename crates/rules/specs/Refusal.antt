@@ -1,10 +1,9 @@
 -- Document 01, "Refusal numbers", and those that document 02 adds.
-use Rattle.std.specs.Prelude.{Bool, ◌&&◌, List, [], ◌∷◌, ℕ, leb, eqb, length, if◌then◌else◌}
+use Rattle.std.specs.Prelude.{Bool, true, false, ◌&&◌, List, [], ◌∷◌, ℕ, leb, eqb, length, if◌then◌else◌, Result, Ok, Err, ⊤}
 use Rattle.rules.specs.declared.Frame.{Frame}
 use Rattle.rules.specs.declared.Session.{Session}
 use Rattle.rules.specs.declared.Refusal.{Refusal}
 use Rattle.rules.specs.declared.Refusal.TheVariants.{
-  Taken,
   Size,
   BufferLength,
   BadCharacter,
@@ -21,9 +20,8 @@ use Rattle.rules.specs.declared.Refusal.TheVariants.{
 use Rattle.rules.specs.Edition.{is_edition}
 use Rattle.rules.specs.Session.{Screen, sizes_ok, cells, reply_room, all_printable, all_marks, session_ok}
 
--- the table's numbers; 0 where the call is taken
+-- the table's numbers
 abbrev pub number_of : Refusal → ℕ
-number_of Taken = 0
 number_of Size = 1
 number_of BufferLength = 2
 number_of BadCharacter = 3
@@ -37,8 +35,18 @@ number_of LineFull = 10
 number_of BadMark = 11
 number_of UnknownEdition = 12
 
-abbrev pub is_taken : Refusal → Bool
-is_taken r = eqb (number_of r) 0
+-- a call is taken, or refused
+abbrev pub Verdict : Type 0
+Verdict = Result ⊤ Refusal
+
+abbrev pub is_taken : Verdict → Bool
+is_taken (Ok taken) = true
+is_taken (Err r) = false
+
+-- the number that a call returns: 0 where it is taken
+abbrev pub told_number : Verdict → ℕ
+told_number (Ok taken) = 0
+told_number (Err r) = number_of r
 
 -- a test that a call must pass, and its refusal where it does not
 pub record Test : Type 0 where
@@ -49,9 +57,9 @@ abbrev pub test : Bool → Refusal → Test
 test passes otherwise = record { passes = passes; otherwise = otherwise }
 
 -- the first test that fails decides
-unfoldable pub verdict : List Test → Refusal
-verdict [] = Taken
-verdict (t ∷ ts) = if t.passes then verdict ts else t.otherwise
+unfoldable pub verdict : List Test → Verdict
+verdict [] = Ok tt
+verdict (t ∷ ts) = if t.passes then verdict ts else Err t.otherwise
 
 -- 1
 abbrev pub size_test : Frame → Test

@@ -1,5 +1,5 @@
 -- Document 01, "Subcommands", and document 02, requests (ii), (iii), (v) and (vi): what each does.
-use Rattle.std.specs.Prelude.{Bool, true, false, List, [], ◌∷◌, ℕ, zero, suc, ◌+◌, eqb, replicate, if◌then◌else◌}
+use Rattle.std.specs.Prelude.{Bool, true, false, List, [], ◌∷◌, ℕ, zero, suc, ◌+◌, eqb, replicate, if◌then◌else◌, Option, Some, None, Result, Ok, Err, ⊤}
 use Rattle.telnet.specs.declared.Verb.{Verb}
 use Rattle.telnet.specs.declared.Verb.TheVariants.{Will, Wont, Do, Dont}
 use Rattle.telnet.specs.Reader.{verb_code}
@@ -44,7 +44,6 @@ use Rattle.rules.specs.declared.Command.TheVariants.{
 use Rattle.rules.specs.declared.Edition.{Edition}
 use Rattle.rules.specs.declared.Fault.{Fault}
 use Rattle.rules.specs.declared.Fault.TheVariants.{
-  NoFault,
   NotAgreed,
   UnknownCode,
   OffScreen,
@@ -57,7 +56,7 @@ use Rattle.rules.specs.Session.{View, with_received, cursor_cell, screen_end, wi
 use Rattle.rules.specs.Number.{det_option, cursor_position, data_transmit, suppress_protection, field_separator, error, fault_number}
 use Rattle.rules.specs.Edition.{code_for}
 use Rattle.rules.specs.Facility.{own_map, receiving}
-use Rattle.rules.specs.Command.{Row, Listed, listed, unlisted, row_of, code_in, parameter, place_in, format_count, fault_of}
+use Rattle.rules.specs.Command.{Row, row_of, code_in, parameter, place_in, format_count, fault_of}
 use Rattle.rules.specs.Effect.{
   Effect,
   Part,
@@ -240,8 +239,8 @@ abbrev pub erring : View → ℕ → Fault → Effect
 erring v code fault = saying v (message (code_for v.frame.edition error ∷ code ∷ fault_number fault ∷ []) ∷ [])
 
 -- obeyed, and so executed; or an ERROR, which MOVE CURSOR draws after it has limited
-unfoldable pub judged : View → Row → Held → Fault → Effect
-judged v r h NoFault =
+unfoldable pub judged : View → Row → Held → Result ⊤ Fault → Effect
+judged v r h (Ok passed) =
     let e = obeyed v r.command h in
     record {
       view = e.view;
@@ -250,17 +249,17 @@ judged v r h NoFault =
       reply = e.reply;
       executed = record { row = r; held = h } ∷ [];
     }
-judged v r h OffScreen = erring (with_cursor v (limited v.frame (place_in h))) (code_in h) OffScreen
-judged v r h NotAgreed = erring v (code_in h) NotAgreed
-judged v r h UnknownCode = erring v (code_in h) UnknownCode
-judged v r h TooManyParameters = erring v (code_in h) TooManyParameters
-judged v r h TooFewParameters = erring v (code_in h) TooFewParameters
-judged v r h BadValue = erring v (code_in h) BadValue
-judged v r h BadMap = erring v (code_in h) BadMap
+judged v r h (Err OffScreen) = erring (with_cursor v (limited v.frame (place_in h))) (code_in h) OffScreen
+judged v r h (Err NotAgreed) = erring v (code_in h) NotAgreed
+judged v r h (Err UnknownCode) = erring v (code_in h) UnknownCode
+judged v r h (Err TooManyParameters) = erring v (code_in h) TooManyParameters
+judged v r h (Err TooFewParameters) = erring v (code_in h) TooFewParameters
+judged v r h (Err BadValue) = erring v (code_in h) BadValue
+judged v r h (Err BadMap) = erring v (code_in h) BadMap
 
-unfoldable pub looked : View → Listed → Held → Effect
-looked v unlisted h = erring v (code_in h) UnknownCode
-looked v (listed r) h = judged v r h (fault_of v r.command r.parameters r.governor h)
+unfoldable pub looked : View → Option Row → Held → Effect
+looked v None h = erring v (code_in h) UnknownCode
+looked v (Some r) h = judged v r h (fault_of v r.command r.parameters r.governor h)
 
 -- a subnegotiation of option 20 that ended while DET is on, with these bytes held; no command byte: ERROR 10 with command 0
 unfoldable pub subcommand : View → Held → Effect

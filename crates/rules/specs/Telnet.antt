@@ -1,5 +1,5 @@
 -- Document 01, "Telnet bytes" and the last paragraph of "Cells, fields and guards": held bytes, negotiation, host data.
-use Rattle.std.specs.Prelude.{Bool, true, false, List, [], ◌∷◌, ◌++◌, ℕ, zero, suc, ◌+◌, leb, ltb, eqb, set, if◌then◌else◌}
+use Rattle.std.specs.Prelude.{Bool, true, false, List, [], ◌∷◌, ◌++◌, ℕ, zero, suc, ◌+◌, leb, ltb, eqb, set, if◌then◌else◌, Option, Some, None}
 use Rattle.telnet.specs.declared.Event.{Event}
 use Rattle.telnet.specs.declared.Event.TheVariants.{Nothing, Data, Negotiation, Begin, Sub, End, EndBare, Lost}
 use Rattle.telnet.specs.declared.Verb.{Verb}
@@ -8,7 +8,7 @@ use Rattle.telnet.specs.Writer.{negotiation}
 use Rattle.rules.specs.declared.Held.{Held}
 use Rattle.rules.specs.declared.Frame.{Frame}
 use Rattle.rules.specs.declared.TelnetOption.{TelnetOption}
-use Rattle.rules.specs.declared.TelnetOption.TheVariants.{Det, X3, Other}
+use Rattle.rules.specs.declared.TelnetOption.TheVariants.{Det, X3}
 use Rattle.rules.specs.declared.Destination.TheVariants.{Down, Left, LineStart, NextCell}
 use Rattle.rules.specs.Session.{
   View,
@@ -61,39 +61,39 @@ cr_after cr Lost = cr
 
 -- ---- item 3: negotiation. Document 02, request (i): option 30 is switched and answered as 20 is.
 
-unfoldable pub option_of : ℕ → TelnetOption
-option_of n = if eqb n det_option then Det else if eqb n x3_option then X3 else Other
+-- the options that the terminal has
+unfoldable pub option_of : ℕ → Option TelnetOption
+option_of n = if eqb n det_option then Some Det else if eqb n x3_option then Some X3 else None
 
 unfoldable pub is_on : Frame → TelnetOption → Bool
 is_on f Det = f.det
 is_on f X3 = f.x3
-is_on f Other = false
 
--- may it be switched on: 30 only from 37 cells up, no other option ever
+-- may it be switched on: 30 only from 37 cells up
 unfoldable pub accepts : Frame → TelnetOption → Bool
 accepts f Det = true
 accepts f X3 = leb x3_cells (cells f)
-accepts f Other = false
 
 -- switched on or off: with DET off, protection is in effect again and nothing is agreed; 30 leaves both
 unfoldable pub turned : Frame → TelnetOption → Bool → Frame
 turned f Det true = switched f true f.suppressed
 turned f Det false = with_received (switched f false false) no_maps
 turned f X3 on = with_x3 f on
-turned f Other on = f
 
 abbrev pub answer : Verb → ℕ → List Part
 answer verb option = bytes (negotiation verb option) ∷ []
 
--- DO and DONT: a change is answered, and a DO that is not accepted
-unfoldable pub switched_on : View → TelnetOption → ℕ → Effect
-switched_on v o option =
+-- DO and DONT: a change is answered, and a DO that is not accepted, as that of an option that the terminal has not
+unfoldable pub switched_on : View → Option TelnetOption → ℕ → Effect
+switched_on v None option = saying v (answer Wont option)
+switched_on v (Some o) option =
     if is_on v.frame o then quiet v
     else if accepts v.frame o then saying (with_frame v (turned v.frame o true)) (answer Will option)
     else saying v (answer Wont option)
 
-unfoldable pub switched_off : View → TelnetOption → ℕ → Effect
-switched_off v o option =
+unfoldable pub switched_off : View → Option TelnetOption → ℕ → Effect
+switched_off v None option = quiet v
+switched_off v (Some o) option =
     if is_on v.frame o then saying (with_frame v (turned v.frame o false)) (answer Wont option) else quiet v
 
 unfoldable pub negotiated : View → Verb → ℕ → Effect

@@ -27,7 +27,7 @@ pub struct Maps {
 }
 
 // The edition of the protocol, which says what code a command has: RFC 731 (June), or RFC 732 (September).
-#[derive(Clone, Copy)]
+#[derive(Clone, Copy, Debug, PartialEq, Eq)]
 pub enum Edition {
     June,
     September,
@@ -71,18 +71,16 @@ pub struct Session {
     pub pad: Pad,
 }
 
-// A Telnet option by its meaning.
-#[derive(Clone, Copy)]
+// The Telnet options that the terminal has.
+#[derive(Clone, Copy, Debug, PartialEq, Eq)]
 pub enum TelnetOption {
     Det,
     X3,
-    Other,
 }
 
-// Why a call is refused; `Taken` where it is not.
-#[derive(Clone, Copy)]
+// Why a call is refused.
+#[derive(Clone, Copy, Debug, PartialEq, Eq)]
 pub enum Refusal {
-    Taken,
     Size,
     BufferLength,
     BadCharacter,
@@ -97,17 +95,20 @@ pub enum Refusal {
     UnknownEdition,
 }
 
-// What each operation answers.
+// A call is taken, or refused.
+pub type Verdict = Result<(), Refusal>;
+
+// What each operation answers. (Document 01, refusal numbers: a refusal has counts of 0, so they stand beside the verdict.)
 #[derive(Clone, Copy)]
 pub struct Answer {
     pub session: Session,
-    pub refusal: Refusal,
+    pub verdict: Verdict,
     pub taken: usize,
     pub written: usize,
 }
 
 // The classes of facilities that 1 to 4 ask about.
-#[derive(Clone, Copy)]
+#[derive(Clone, Copy, Debug, PartialEq, Eq)]
 pub enum Facility {
     Editing,
     Erasing,
@@ -116,7 +117,7 @@ pub enum Facility {
 }
 
 // Where the cursor goes.
-#[derive(Clone, Copy)]
+#[derive(Clone, Copy, Debug, PartialEq, Eq)]
 pub enum Destination {
     // one step, none at the edge
     Up,
@@ -136,7 +137,7 @@ pub enum Destination {
 }
 
 // What a transmission or an erasure covers.
-#[derive(Clone, Copy)]
+#[derive(Clone, Copy, Debug, PartialEq, Eq)]
 pub enum Area {
     WholeScreen,
     Unprotected,
@@ -171,10 +172,9 @@ pub enum Command {
     Error,
 }
 
-// What governs a subcommand: the bit of this weight in a class's map, or none.
-#[derive(Clone, Copy)]
+// What governs a subcommand: the bit of this weight in a class's map.
+#[derive(Clone, Copy, Debug, PartialEq, Eq)]
 pub enum Governor {
-    Ungoverned,
     EditBit(u8),
     EraseBit(u8),
     TransmitBit(u8),
@@ -182,21 +182,17 @@ pub enum Governor {
     Format1Bit(u8),
 }
 
-// What the list of subcommands says of a code: what it means, how many parameters it takes, and what governs it.
+// What the list of subcommands says of a code: what it means, how many parameters it takes, and what governs it, if anything does.
 #[derive(Clone, Copy)]
-pub enum Code {
-    Known {
-        command: Command,
-        parameters: u8,
-        governor: Governor,
-    },
-    Unknown,
+pub struct Code {
+    pub command: Command,
+    pub parameters: u8,
+    pub governor: Option<Governor>,
 }
 
-// The ERROR that a subcommand draws, if any.
-#[derive(Clone, Copy)]
+// The ERROR that a subcommand draws.
+#[derive(Clone, Copy, Debug, PartialEq, Eq)]
 pub enum Fault {
-    NoFault,
     NotAgreed,
     UnknownCode,
     OffScreen,

@@ -17,7 +17,7 @@ use Rattle.rules.specs.declared.Maps.{Maps}
 use Rattle.rules.specs.declared.Pad.{Pad}
 use Rattle.rules.specs.Session.{Screen, State, no_maps, fresh_pad, session, placed, switched, with_x3, with_received, screen, state}
 use Rattle.rules.specs.Edition.{name_of}
-use Rattle.rules.specs.Refusal.{number_of}
+use Rattle.rules.specs.Refusal.{told_number}
 use Rattle.rules.specs.Operation.{Outcome, opened}
 use Rattle.rules.specs.Call.{Call, host, key, called, left}
 
@@ -38,7 +38,7 @@ pub record Seen : Type 0 where
 abbrev pub look : Outcome → Seen
 look o =
     record {
-      refusal = number_of o.answer.refusal;
+      refusal = told_number o.answer.verdict;
       taken = o.answer.taken;
       written = o.answer.written;
       left = left o;
@@ -61,7 +61,7 @@ abbrev pub brief : ℕ → ℕ → State → List ℕ → Brief
 brief refusal taken s replies = record { refusal = refusal; taken = taken; left = s; replies = replies }
 
 abbrev pub tell : Outcome → Brief
-tell o = brief (number_of o.answer.refusal) o.answer.taken (left o) (take o.answer.written o.reply)
+tell o = brief (told_number o.answer.verdict) o.answer.taken (left o) (take o.answer.written o.reply)
 
 -- in full, with a reply buffer of so many bytes: behind the bytes replied it is as it was lent
 abbrev pub in_full : ℕ → Brief → Seen

@@ -2,6 +2,7 @@
 use mathlib.Core.Path.{◌≡◌, refl}
 use mathlib.Core.Bool.{Bool, true, false, ◌&&◌}
 use mathlib.Core.List.{List, [], ◌∷◌}
+use Rattle.std.specs.Prelude.{None}
 use Prim.Native.Nat.{ℕ, zero, suc, ◌+◌, ◌-◌, ◌≤◌, ◌<◌}
 use native.Mathlib.Omega.{arith}
 use borrow.Author.Tests.{eqb-true, eqb-false, leb-true, lt-ltb, le-ltb, not-true}
@@ -11,9 +12,8 @@ use Rattle.words.specs.Words.{between}
 use Rattle.words.proofs.Laws.{true_or_false, less_or_not, not_both, and_left, and_right, in_between, above_between}
 use Rattle.rules.specs.declared.Edition.{Edition}
 use Rattle.rules.specs.declared.Edition.TheVariants.{June, September}
-use Rattle.rules.specs.declared.Code.TheVariants.{Unknown}
 use Rattle.rules.specs.Edition.{code_for, meant_by, holds}
-use Rattle.rules.specs.Command.{Row, rows, unlisted, row_in, row_of, meaning}
+use Rattle.rules.specs.Command.{Row, rows, row_in, row_of, meaning}
 use Rattle.command.specs.declared.code.Entry.{Entry}
 use Rattle.command.specs.Inner.Codes.{entry_of, entries_from, entries, array_of}
 
@@ -45,7 +45,7 @@ abbrev in_range : List Row → Bool
 in_range [] = true
 in_range (r ∷ rs) = between 1 41 r.code && in_range rs
 
-no_row : (rs : List Row) → in_range rs ≡ true → (command : ℕ) → between 1 41 command ≡ false → row_in rs command ≡ unlisted
+no_row : (rs : List Row) → in_range rs ≡ true → (command : ℕ) → between 1 41 command ≡ false → row_in rs command ≡ None
 unfolding row_in
 no_row [] all command out = refl
 no_row (r ∷ rs) all command out =
@@ -53,7 +53,7 @@ no_row (r ∷ rs) all command out =
     (λ e. not_both (between 1 41 r.code) (and_left _ _ all) (rw (eqb-true command r.code e) at out))
     (λ e. rw e (no_row rs (and_right (between 1 41 r.code) _ all) command out))
 
-outside : (command : ℕ) → between 1 41 command ≡ false → row_in rows command ≡ unlisted
+outside : (command : ℕ) → between 1 41 command ≡ false → row_in rows command ≡ None
 unfolding rows
 outside = no_row rows refl
 
@@ -64,7 +64,7 @@ entry_means e code =
     true_or_false (between 1 41 (meant_by e code)) (λ q. rw q) (λ q. rw (q, outside (meant_by e code) q, outside 0 refl))
 
 -- past the table no code means anything
-pub past_table : (e : Edition) (code : ℕ) → 42 ≤ code → Unknown ≡ meaning (row_of e code)
+pub past_table : (e : Edition) (code : ℕ) → 42 ≤ code → None ≡ meaning (row_of e code)
 unfolding meant_by meaning
 past_table September code h = rw (outside code (above_between 1 41 code (omega arith)))
 past_table June code h = rw (le-ltb code 27 (omega arith), outside (code + 1) (above_between 1 41 (code + 1) (omega arith)))

@@ -1,6 +1,7 @@
 -- Laws of the ERRORs that values draw.
 use mathlib.Core.Path.{◌≡◌, refl}
 use mathlib.Core.List.{List, [], ◌∷◌}
+use Rattle.std.specs.Prelude.{Ok}
 use Prim.Native.Nat.{ℕ}
 use types.Run.{OneOf, miss}
 use denote.Enum.Declared.{tag_of}
@@ -24,7 +25,6 @@ use Rattle.rules.specs.declared.Command.TheVariants.{
   SuppressProtection,
   Error,
 }
-use Rattle.rules.specs.declared.Fault.TheVariants.{NoFault}
 use Rattle.rules.specs.Session.{View}
 use Rattle.rules.specs.Command.{value_fault}
 
@@ -33,7 +33,7 @@ abbrev any : List ℕ
 any = 0 ∷ 2 ∷ 3 ∷ 4 ∷ 5 ∷ 6 ∷ 7 ∷ 8 ∷ 9 ∷ 10 ∷ 14 ∷ []
 
 -- they take any values
-pub any_values : (v : View) (h : Held) (c : Command) → OneOf any (tag_of the_type c) → NoFault ≡ value_fault v c h
+pub any_values : (v : View) (h : Held) (c : Command) → OneOf any (tag_of the_type c) → Ok tt ≡ value_fault v c h
 unfolding value_fault
 any_values v h MoveCursor o = absurd (miss any 1 tt o)
 any_values v h FormatData o = absurd (miss any 11 tt o)

@@ -1,4 +1,3 @@
 pub mod HeldLaws
 pub mod CodeLaws
-pub mod RefusalLaws
 pub mod FaultLaws

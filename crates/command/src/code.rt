@@ -125,11 +125,11 @@ fn entry_of(edition: Edition, code: u8) -> Entry
 }
 
 #[tactic(auto, using(crate::proofs::CodeLaws::entry_means, crate::proofs::CodeLaws::past_table))]
-pub fn command_of(edition: Edition, code: u8) -> Code
+pub fn command_of(edition: Edition, code: u8) -> Option<Code>
     ensures { result ≡ meaning (row_of edition code) }
 {
     if code >= COUNT {
-        return Code::Unknown;
+        return None;
     }
     let entry = entry_of(edition, code);
     meaning_of(entry.0)

@@ -8,48 +8,48 @@ use rules::{Edition, Facility, Governor, Maps};
 use words::bit;
 
 // By the weight of its bit: of the edit map,
-pub(crate) const TOROIDAL_ADDRESSING: Governor = Governor::EditBit(64);
+pub(crate) const TOROIDAL_ADDRESSING: Option<Governor> = Some(Governor::EditBit(64));
 
-pub(crate) const INCREMENTAL_ADDRESSING: Governor = Governor::EditBit(32);
+pub(crate) const INCREMENTAL_ADDRESSING: Option<Governor> = Some(Governor::EditBit(32));
 
-pub(crate) const READ_CURSOR_ADDRESS: Governor = Governor::EditBit(16);
+pub(crate) const READ_CURSOR_ADDRESS: Option<Governor> = Some(Governor::EditBit(16));
 
-pub(crate) const LINE_INSERT_DELETE: Governor = Governor::EditBit(8);
+pub(crate) const LINE_INSERT_DELETE: Option<Governor> = Some(Governor::EditBit(8));
 
-pub(crate) const CHAR_INSERT_DELETE: Governor = Governor::EditBit(4);
+pub(crate) const CHAR_INSERT_DELETE: Option<Governor> = Some(Governor::EditBit(4));
 
-pub(crate) const BACK_TAB: Governor = Governor::EditBit(2);
+pub(crate) const BACK_TAB: Option<Governor> = Some(Governor::EditBit(2));
 
 // of the erase map,
-pub(crate) const ERASE_FIELD: Governor = Governor::EraseBit(16);
+pub(crate) const ERASE_FIELD: Option<Governor> = Some(Governor::EraseBit(16));
 
-pub(crate) const ERASE_LINE: Governor = Governor::EraseBit(8);
+pub(crate) const ERASE_LINE: Option<Governor> = Some(Governor::EraseBit(8));
 
-pub(crate) const ERASE_REST_OF_SCREEN: Governor = Governor::EraseBit(4);
+pub(crate) const ERASE_REST_OF_SCREEN: Option<Governor> = Some(Governor::EraseBit(4));
 
-pub(crate) const ERASE_REST_OF_LINE: Governor = Governor::EraseBit(2);
+pub(crate) const ERASE_REST_OF_LINE: Option<Governor> = Some(Governor::EraseBit(2));
 
-pub(crate) const ERASE_REST_OF_FIELD: Governor = Governor::EraseBit(1);
+pub(crate) const ERASE_REST_OF_FIELD: Option<Governor> = Some(Governor::EraseBit(1));
 
 // of the transmit map,
-pub(crate) const TRANSMIT_LINE: Governor = Governor::TransmitBit(16);
+pub(crate) const TRANSMIT_LINE: Option<Governor> = Some(Governor::TransmitBit(16));
 
-pub(crate) const TRANSMIT_FIELD: Governor = Governor::TransmitBit(8);
+pub(crate) const TRANSMIT_FIELD: Option<Governor> = Some(Governor::TransmitBit(8));
 
-pub(crate) const TRANSMIT_REST_OF_SCREEN: Governor = Governor::TransmitBit(4);
+pub(crate) const TRANSMIT_REST_OF_SCREEN: Option<Governor> = Some(Governor::TransmitBit(4));
 
-pub(crate) const TRANSMIT_REST_OF_LINE: Governor = Governor::TransmitBit(2);
+pub(crate) const TRANSMIT_REST_OF_LINE: Option<Governor> = Some(Governor::TransmitBit(2));
 
-pub(crate) const TRANSMIT_REST_OF_FIELD: Governor = Governor::TransmitBit(1);
+pub(crate) const TRANSMIT_REST_OF_FIELD: Option<Governor> = Some(Governor::TransmitBit(1));
 
 // of the two bytes of the format map.
-pub(crate) const MODIFIED: Governor = Governor::Format0Bit(64);
+pub(crate) const MODIFIED: Option<Governor> = Some(Governor::Format0Bit(64));
 
-pub(crate) const REPEATING: Governor = Governor::Format0Bit(16);
+pub(crate) const REPEATING: Option<Governor> = Some(Governor::Format0Bit(16));
 
-pub(crate) const PROTECTION_ON_OFF: Governor = Governor::Format1Bit(64);
+pub(crate) const PROTECTION_ON_OFF: Option<Governor> = Some(Governor::Format1Bit(64));
 
-pub(crate) const PROTECTION: Governor = Governor::Format1Bit(32);
+pub(crate) const PROTECTION: Option<Governor> = Some(Governor::Format1Bit(32));
 
 // June has no TRANSMIT MODIFIED, and its bit is off.
 fn own_format0(edition: Edition) -> u8
@@ -91,23 +91,12 @@ pub fn no_maps() -> Maps
 pub fn receive(maps: Maps, facility: Facility, first: u8, second: u8) -> Maps
     ensures { result ≡ receiving maps facility first second }
 {
-    let mut next = maps;
     match facility {
-        Facility::Editing => {
-            next.edit = first;
-        }
-        Facility::Erasing => {
-            next.erase = first;
-        }
-        Facility::Transmitting => {
-            next.transmit = first;
-        }
-        Facility::Formatting => {
-            next.format0 = first;
-            next.format1 = second;
-        }
+        Facility::Editing => Maps { edit: first, ..maps },
+        Facility::Erasing => Maps { erase: first, ..maps },
+        Facility::Transmitting => Maps { transmit: first, ..maps },
+        Facility::Formatting => Maps { format0: first, format1: second, ..maps },
     }
-    next
 }
 
 // Is the bit set in both?
@@ -119,12 +108,14 @@ fn in_both(weight: u8, received: u8, own: u8) -> bool
 
 // Is what governs a subcommand agreed, these maps having been received?
 #[tactic(auto, unfolding(rules::specs::Facility::agreed))]
-pub fn is_agreed(edition: Edition, maps: Maps, governor: Governor) -> bool
+pub fn is_agreed(edition: Edition, maps: Maps, governor: Option<Governor>) -> bool
     ensures { result ≡ agreed edition maps governor }
 {
+    let Some(bit) = governor else {
+        return true;
+    };
     let own = own_maps(edition);
-    match governor {
-        Governor::Ungoverned => true,
+    match bit {
         Governor::EditBit(weight) => in_both(weight, maps.edit, own.edit),
         Governor::EraseBit(weight) => in_both(weight, maps.erase, own.erase),
         Governor::TransmitBit(weight) => in_both(weight, maps.transmit, own.transmit),

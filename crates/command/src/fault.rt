@@ -11,15 +11,15 @@ use crate::character::is_printable;
 use crate::facility::is_agreed;
 use crate::frame::cursor_cell;
 use crate::held::{first_parameter, format_count, place_parameters, second_parameter};
-use rules::{Command, Fault, Frame, Governor, Held};
+use rules::{Code, Command, Fault, Frame, Held};
 use screen::cell::on_screen;
 use telnet::code::{DONT, WILL};
 
 // No ERROR where the test is passed.
-fn unless(passed: bool, fault: Fault) -> Fault
-    ensures { result ≡ (if passed then Fault.NoFault else fault) }
+fn unless(passed: bool, fault: Fault) -> Result<(), Fault>
+    ensures { result ≡ (if passed then Ok tt else Err fault) }
 {
-    if passed { Fault::NoFault } else { fault }
+    if passed { Ok(()) } else { Err(fault) }
 }
 
 // The cell after the last one that FORMAT DATA formats: it starts at the cursor.
@@ -32,14 +32,11 @@ pub fn format_end(frame: Frame, held: Held) -> usize
 
 // The ERROR that FORMAT DATA's values draw: map bits, then more cells than remain.
 #[tactic(auto, unfolding(rules::specs::Command::value_fault))]
-fn format_fault(frame: Frame, attrs: &[u8], held: Held) -> Fault
+fn format_fault(frame: Frame, attrs: &[u8], held: Held) -> Result<(), Fault>
     ensures { result ≡ value_fault (seen frame attrs.now) Command.FormatData held }
 {
-    if 31 < first_parameter(held) {
-        return Fault::BadMap;
-    }
-    if second_parameter(held) != 0 {
-        return Fault::BadMap;
+    if 31 < first_parameter(held) || second_parameter(held) != 0 {
+        return Err(Fault::BadMap);
     }
     unless(format_end(frame, held) <= attrs.len(), Fault::BadValue)
 }
@@ -52,7 +49,12 @@ fn is_verb(byte: u8) -> bool
 
 // The ERROR that the parameters' values draw, their count being right.
 #[tactic(auto, using(crate::proofs::FaultLaws::any_values), unfolding(rules::specs::Command::value_fault))]
-fn value_fault(frame: Frame, attrs: &[u8], command: Command, held: Held) -> Fault
+fn value_fault(
+    frame: Frame,
+    attrs: &[u8],
+    command: Command,
+    held: Held,
+) -> Result<(), Fault>
     ensures { result ≡ value_fault (seen frame attrs.now) command held }
 {
     match command {
@@ -66,36 +68,31 @@ fn value_fault(frame: Frame, attrs: &[u8], command: Command, held: Held) -> Faul
         Command::FormatData => format_fault(frame, attrs, held),
         Command::Repeat => unless(is_printable(second_parameter(held)), Fault::BadValue),
         Command::SuppressProtection => unless(is_verb(first_parameter(held)), Fault::BadValue),
-        _ => Fault::NoFault,
+        _ => Ok(()),
     }
 }
 
 // The ERROR that a known command draws: by its facility, by its parameters' count, then by their values. The code is among the bytes
 // held.
 #[tactic(auto, unfolding(rules::specs::Command::fault_of))]
-pub fn fault_of(
-    frame: Frame,
-    attrs: &[u8],
-    command: Command,
-    parameters: u8,
-    governor: Governor,
-    held: Held,
-) -> Fault
-    ensures { result ≡ fault_of (seen frame attrs.now) command parameters governor held }
+pub fn fault_of(frame: Frame, attrs: &[u8], code: Code, held: Held) -> Result<(), Fault>
+    ensures { result ≡ fault_of (seen frame attrs.now) code.command code.parameters code.governor held }
 {
-    let edition = frame.edition;
-    let maps = frame.received;
-    let agreed = is_agreed(edition, maps, governor);
-    if !agreed {
-        return Fault::NotAgreed;
+    let Code {
+        command,
+        parameters,
+        governor,
+    } = code;
+    if !is_agreed(frame.edition, frame.received, governor) {
+        return Err(Fault::NotAgreed);
     }
     let wanted = parameters as usize + 1;
     let count = held.count as usize;
     if count < wanted {
-        return Fault::TooFewParameters;
+        return Err(Fault::TooFewParameters);
     }
     if wanted < count {
-        return Fault::TooManyParameters;
+        return Err(Fault::TooManyParameters);
     }
     value_fault(frame, attrs, command, held)
 }

@@ -13,51 +13,44 @@ use screen::cell::{Place, cell_of, on_screen};
 pub fn moved(frame: Frame, cursor: Place) -> Frame
     ensures { result ≡ placed frame cursor }
 {
-    let mut next = frame;
-    next.cursor = cursor;
-    next
+    Frame { cursor, ..frame }
 }
 
 // The frame with these modes.
 pub fn switched(frame: Frame, det: bool, suppressed: bool) -> Frame
     ensures { result ≡ switched frame det suppressed }
 {
-    let mut next = frame;
-    next.det = det;
-    next.suppressed = suppressed;
-    next
+    Frame {
+        det,
+        suppressed,
+        ..frame
+    }
 }
 
 // The frame with option 30 on or off.
 pub fn with_x3(frame: Frame, x3: bool) -> Frame
     ensures { result ≡ with_x3 frame x3 }
 {
-    let mut next = frame;
-    next.x3 = x3;
-    next
+    Frame { x3, ..frame }
 }
 
 // The frame with these maps received.
 pub fn with_received(frame: Frame, received: Maps) -> Frame
     ensures { result ≡ with_received frame received }
 {
-    let mut next = frame;
-    next.received = received;
-    next
+    Frame { received, ..frame }
 }
 
 pub fn cursor_cell(frame: Frame) -> usize
     ensures { result ≡ cell_of frame.width frame.cursor }
 {
-    let cursor = frame.cursor;
-    cell_of(frame.width, cursor)
+    cell_of(frame.width, frame.cursor)
 }
 
 pub fn cursor_guarded(frame: Frame, attrs: &[u8]) -> bool
     ensures { result ≡ cursor_guarded (seen frame attrs.now) }
 {
-    let cell = cursor_cell(frame);
-    is_guarded(frame.suppressed, attrs, cell)
+    is_guarded(frame.suppressed, attrs, cursor_cell(frame))
 }
 
 // Is the cursor on the screen, with an attribute byte for each cell?
@@ -65,10 +58,6 @@ pub fn cursor_guarded(frame: Frame, attrs: &[u8]) -> bool
 pub fn fits(frame: Frame, attrs: &[u8]) -> bool
     ensures { result ≡ fitting (seen frame attrs.now) }
 {
-    let cursor = frame.cursor;
-    let on = on_screen(frame.width, frame.height, cursor);
-    if on {
-        return attrs.len() == frame.height as usize * frame.width as usize;
-    }
-    false
+    on_screen(frame.width, frame.height, frame.cursor)
+        && attrs.len() == frame.height as usize * frame.width as usize
 }

@@ -94,12 +94,11 @@ pub(crate) const FN: u8 = 40;
 
 pub(crate) const ERROR: u8 = 41;
 
-// ERROR's numbers; 0 where there is none.
+// ERROR's numbers.
 pub fn fault_number(fault: Fault) -> u8
     ensures { result ≡ fault_number fault }
 {
     match fault {
-        Fault::NoFault => 0,
         Fault::NotAgreed => 1,
         Fault::UnknownCode => 2,
         Fault::OffScreen => 3,

@@ -15,6 +15,9 @@ use Rattle.rules.specs.declared.Edition.TheVariants.{June, September}
 use Rattle.rules.specs.Edition.{code_for, meant_by, holds}
 use Rattle.rules.specs.Command.{Row, rows, row_in, row_of, meaning}
 use Rattle.command.specs.declared.code.Entry.{Entry}
+use Rattle.command.specs.declared.sent.Sent.{Sent}
+use Rattle.command.specs.declared.sent.Sent.TheVariants.{CursorPosition, DataTransmit, SuppressProtection, FieldSeparator, FunctionKey, Error}
+use Rattle.command.specs.Sent.{number_of}
 use Rattle.command.specs.Inner.Codes.{entry_of, entries_from, entries, array_of}
 
 -- ---- reading
@@ -111,3 +114,16 @@ pub both_hold : (e : Edition) (command : ℕ) → holds June command ≡ true �
 unfolding holds
 both_hold June command h = h
 both_hold September command h = and_left (between 1 41 command) _ h
+
+-- each edition has what is sent
+june_sends : (s : Sent) → holds June (number_of s) ≡ true
+unfolding holds
+june_sends CursorPosition = refl
+june_sends DataTransmit = refl
+june_sends SuppressProtection = refl
+june_sends FieldSeparator = refl
+june_sends FunctionKey = refl
+june_sends Error = refl
+
+pub sent_held : (e : Edition) (s : Sent) → holds e (number_of s) ≡ true
+sent_held e s = both_hold e (number_of s) (june_sends s)

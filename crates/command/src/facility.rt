@@ -92,10 +92,23 @@ pub fn receive(maps: Maps, facility: Facility, first: u8, second: u8) -> Maps
     ensures { result ≡ receiving maps facility first second }
 {
     match facility {
-        Facility::Editing => Maps { edit: first, ..maps },
-        Facility::Erasing => Maps { erase: first, ..maps },
-        Facility::Transmitting => Maps { transmit: first, ..maps },
-        Facility::Formatting => Maps { format0: first, format1: second, ..maps },
+        Facility::Editing => Maps {
+            edit: first,
+            ..maps
+        },
+        Facility::Erasing => Maps {
+            erase: first,
+            ..maps
+        },
+        Facility::Transmitting => Maps {
+            transmit: first,
+            ..maps
+        },
+        Facility::Formatting => Maps {
+            format0: first,
+            format1: second,
+            ..maps
+        },
     }
 }
 

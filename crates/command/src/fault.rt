@@ -48,13 +48,8 @@ fn is_verb(byte: u8) -> bool
 }
 
 // The ERROR that the parameters' values draw, their count being right.
-#[tactic(auto, using(crate::proofs::FaultLaws::any_values), unfolding(rules::specs::Command::value_fault))]
-fn value_fault(
-    frame: Frame,
-    attrs: &[u8],
-    command: Command,
-    held: Held,
-) -> Result<(), Fault>
+#[tactic(auto, unfolding(rules::specs::Command::value_fault))]
+fn value_fault(frame: Frame, attrs: &[u8], command: Command, held: Held) -> Result<(), Fault>
     ensures { result ≡ value_fault (seen frame attrs.now) command held }
 {
     match command {

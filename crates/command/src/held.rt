@@ -5,6 +5,7 @@ ghost use Rattle.rules.specs.Telnet.{holding, held_after, cr_after};
 ghost use Rattle.rules.specs.Command.{code_in, parameter, place_in, format_count};
 ghost use Rattle.command.specs.Held.{holding_all};
 
+use pad::ascii::CR;
 use rules::Held;
 use screen::cell::{Column, Line, Place};
 use telnet::Event;
@@ -18,28 +19,20 @@ pub fn none() -> Held
     }
 }
 
-// One byte more where fewer than six are held: the count after it.
+// One byte more where fewer than six are held.
 #[tactic(auto, unfolding(rules::specs::Telnet::holding))]
-pub fn hold_in(bytes: &mut [u8; 6], count: u8, byte: u8) -> u8
-    ensures { record { bytes = bytes.new; count = result }
-        ≡ holding (record { bytes = bytes.old; count = count }) byte }
-{
-    if count < 6 {
-        bytes[count as usize] = byte;
-        return count + 1;
-    }
-    count
-}
-
 pub fn hold(held: Held, byte: u8) -> Held
     ensures { result ≡ holding held byte }
 {
-    let mut bytes = held.bytes;
-    let count = hold_in(&mut bytes, held.count, byte);
-    Held {
-        bytes: bytes,
-        count: count,
+    let Held { mut bytes, count } = held;
+    if count < 6 {
+        bytes[count as usize] = byte;
+        return Held {
+            bytes,
+            count: count + 1,
+        };
     }
+    held
 }
 
 // What is held after these bytes, one after the other.
@@ -47,30 +40,18 @@ pub fn hold(held: Held, byte: u8) -> Held
 pub fn hold_all(held: Held, input: &[u8]) -> Held
     ensures { result ≡ holding_all held input.now }
 {
-    let mut bytes = held.bytes;
-    let mut count = held.count;
-    let mut at = 0;
-    while at < input.len() {
-        count = hold_in(&mut bytes, count, input[at]);
-        at += 1;
+    let mut after = held;
+    for byte in input {
+        after = hold(after, *byte);
     }
-    Held {
-        bytes: bytes,
-        count: count,
-    }
+    after
 }
 
 // The byte at i, or 0 beyond the end.
 fn byte_at(bytes: &[u8], i: usize) -> u8
     ensures { result ≡ get_or bytes.now i 0 }
 {
-    if i < bytes.len() { bytes[i] } else { 0 }
-}
-
-fn at_most_six(n: usize) -> u8
-    ensures { result ≡ min n 6 }
-{
-    if n < 6 { n as u8 } else { 6 }
+    bytes.get(i).copied().unwrap_or(0)
 }
 
 // What is held of a whole subnegotiation: its first six bytes, read at once.
@@ -78,7 +59,6 @@ fn at_most_six(n: usize) -> u8
 pub fn held_of(bytes: &[u8]) -> Held
     ensures { result ≡ holding_all none_held bytes.now }
 {
-    let count = at_most_six(bytes.len());
     Held {
         bytes: [
             byte_at(bytes, 0),
@@ -88,7 +68,7 @@ pub fn held_of(bytes: &[u8]) -> Held
             byte_at(bytes, 4),
             byte_at(bytes, 5),
         ],
-        count: count,
+        count: bytes.len().min(6) as u8,
     }
 }
 
@@ -98,14 +78,9 @@ pub fn held_after(held: Held, event: Event) -> Held
     ensures { result ≡ held_after held event }
 {
     match event {
-        Event::Nothing => held,
-        Event::Data(_) => held,
-        Event::Negotiation { verb: _, option: _ } => held,
-        Event::Begin(_) => none(),
+        Event::Nothing | Event::Data(_) | Event::Negotiation { .. } => held,
         Event::Sub { option: _, byte } => hold(held, byte),
-        Event::End(_) => none(),
-        Event::EndBare => none(),
-        Event::Lost => none(),
+        Event::Begin(_) | Event::End(_) | Event::EndBare | Event::Lost => none(),
     }
 }
 
@@ -115,14 +90,8 @@ pub fn cr_after(cr: bool, event: Event) -> bool
     ensures { result ≡ cr_after cr event }
 {
     match event {
-        Event::Nothing => cr,
-        Event::Data(byte) => byte == 13,
-        Event::Negotiation { verb: _, option: _ } => cr,
-        Event::Begin(_) => cr,
-        Event::Sub { option: _, byte: _ } => cr,
-        Event::End(_) => cr,
-        Event::EndBare => cr,
-        Event::Lost => cr,
+        Event::Data(byte) => byte == CR,
+        _ => cr,
     }
 }
 

@@ -9,7 +9,8 @@ pub const DET: u8 = 20;
 
 pub const X3: u8 = 30;
 
-// Commands, received or sent, go by document 01's codes; an edition may have another code for one (`code`). 0 is none.
+// Commands, received or sent, go by document 01's codes; an edition may have another code for one (`code`). 0 is none. They stay numbers,
+// since the tables hold the papers' own; what a received one means is an enum, `Command`.
 pub(crate) const NONE: u8 = 0;
 
 pub const EDIT_FACILITIES: u8 = 1;

@@ -1,50 +1,42 @@
 // The codes of what the terminal sends, in either edition.
 ghost use Rattle.std.specs.Prelude.{◌≡◌};
-ghost use Rattle.rules.specs.Number.{cursor_position, data_transmit, suppress_protection, field_separator, fn, error};
 ghost use Rattle.rules.specs.Edition.{code_for};
+ghost use Rattle.command.specs.Sent.{number_of};
 
 use crate::code::code_of;
 use crate::number;
 use rules::Edition;
 
-#[tactic(auto, using(crate::proofs::CodeLaws::both_hold), unfolding(rules::specs::Edition::holds))]
-pub fn cursor_position(edition: Edition) -> u8
-    ensures { result ≡ code_for edition cursor_position }
-{
-    code_of(edition, number::CURSOR_POSITION)
+// What is sent by a code of its own.
+#[derive(Clone, Copy, Debug, PartialEq, Eq)]
+pub enum Sent {
+    CursorPosition,
+    DataTransmit,
+    SuppressProtection,
+    FieldSeparator,
+    FunctionKey,
+    Error,
 }
 
-#[tactic(auto, using(crate::proofs::CodeLaws::both_hold), unfolding(rules::specs::Edition::holds))]
-pub fn data_transmit(edition: Edition) -> u8
-    ensures { result ≡ code_for edition data_transmit }
+// By document 01's codes.
+#[tactic(auto, unfolding(crate::specs::Sent::number_of))]
+fn number_of(sent: Sent) -> u8
+    ensures { result ≡ number_of sent }
 {
-    code_of(edition, number::DATA_TRANSMIT)
+    match sent {
+        Sent::CursorPosition => number::CURSOR_POSITION,
+        Sent::DataTransmit => number::DATA_TRANSMIT,
+        Sent::SuppressProtection => number::SUPPRESS_PROTECTION,
+        Sent::FieldSeparator => number::FIELD_SEPARATOR,
+        Sent::FunctionKey => number::FN,
+        Sent::Error => number::ERROR,
+    }
 }
 
-#[tactic(auto, using(crate::proofs::CodeLaws::both_hold), unfolding(rules::specs::Edition::holds))]
-pub fn suppress_protection(edition: Edition) -> u8
-    ensures { result ≡ code_for edition suppress_protection }
+// Its code in an edition.
+#[tactic(auto, using(crate::proofs::CodeLaws::sent_held))]
+pub fn code(edition: Edition, sent: Sent) -> u8
+    ensures { result ≡ code_for edition (number_of sent) }
 {
-    code_of(edition, number::SUPPRESS_PROTECTION)
-}
-
-#[tactic(auto, using(crate::proofs::CodeLaws::both_hold), unfolding(rules::specs::Edition::holds))]
-pub fn field_separator(edition: Edition) -> u8
-    ensures { result ≡ code_for edition field_separator }
-{
-    code_of(edition, number::FIELD_SEPARATOR)
-}
-
-#[tactic(auto, using(crate::proofs::CodeLaws::both_hold), unfolding(rules::specs::Edition::holds))]
-pub fn function_key(edition: Edition) -> u8
-    ensures { result ≡ code_for edition fn }
-{
-    code_of(edition, number::FN)
-}
-
-#[tactic(auto, using(crate::proofs::CodeLaws::both_hold), unfolding(rules::specs::Edition::holds))]
-pub fn error(edition: Edition) -> u8
-    ensures { result ≡ code_for edition error }
-{
-    code_of(edition, number::ERROR)
+    code_of(edition, number_of(sent))
 }

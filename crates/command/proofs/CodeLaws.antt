@@ -1,13 +1,7 @@
 -- Laws of the table of codes: which command a code means, and which code a command has.
-use mathlib.Core.Path.{◌≡◌, refl}
-use mathlib.Core.Bool.{Bool, true, false, ◌&&◌}
-use mathlib.Core.List.{List, [], ◌∷◌}
+use Rattle.std.proofs.Common.{◌≡◌, refl, Bool, true, false, ◌&&◌, List, [], ◌∷◌, ℕ, zero, suc, ◌+◌, ◌-◌, ◌≤◌, ◌<◌, arith, eqb-true, leb-true, lt-ltb, le-ltb, leb, eqb, get_or}
 use Rattle.std.specs.Prelude.{None}
-use Prim.Native.Nat.{ℕ, zero, suc, ◌+◌, ◌-◌, ◌≤◌, ◌<◌}
-use native.Mathlib.Omega.{arith}
-use borrow.Author.Tests.{eqb-true, eqb-false, leb-true, lt-ltb, le-ltb, not-true}
-use lib.Dec.{leb, eqb}
-use lib.ListN.{get_or}
+use borrow.Author.Tests.{eqb-false, not-true}
 use Rattle.words.specs.Words.{between}
 use Rattle.words.proofs.Laws.{true_or_false, less_or_not, not_both, and_left, and_right, in_between, above_between}
 use Rattle.rules.specs.declared.Edition.{Edition}

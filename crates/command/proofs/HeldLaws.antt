@@ -1,11 +1,5 @@
 -- Laws of the bytes of a subnegotiation: what is held so far is what the bytes so far leave, and of a whole one the first six are held.
-use mathlib.Core.Path.{◌≡◌, refl, ◌∙◌}
-use mathlib.Core.List.{List, [], ◌∷◌, ◌++◌}
-use Prim.Native.Nat.{ℕ, ◌+◌, ◌≤◌, ◌<◌, min}
-use native.Mathlib.Numerals.{add-one}
-use native.Mathlib.Omega.{arith}
-use lib.ListN.{length, get_or, take}
-use lib.Seq.{take-suc, take_all}
+use Rattle.std.proofs.Common.{◌≡◌, refl, ◌∙◌, List, [], ◌∷◌, ◌++◌, ℕ, ◌+◌, ◌≤◌, ◌<◌, min, add-one, arith, length, get_or, take, take-suc, take_all}
 use Rattle.rules.specs.declared.Held.{Held}
 use Rattle.rules.specs.Session.{none_held}
 use Rattle.rules.specs.Telnet.{holding}

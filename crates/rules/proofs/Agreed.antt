@@ -1,9 +1,5 @@
 -- Document 02, request (ii): worked cases of what is agreed, and which codes each bit of a map lets through.
-use Rattle.std.specs.Prelude.{if◌then◌else◌, Some}
-use mathlib.Core.Path.{◌≡◌, refl}
-use mathlib.Core.Bool.{Bool, true, false, not, ◌&&◌}
-use mathlib.Core.List.{List, [], ◌∷◌, ◌++◌, map}
-use Prim.Native.Nat.{ℕ}
+use Rattle.std.proofs.Common.{◌≡◌, refl, Bool, true, false, not, ◌&&◌, List, [], ◌∷◌, ◌++◌, map, ℕ, if◌then◌else◌, Some}
 use Prim.Native.String.{String}
 use Rattle.words.specs.Words.{bit}
 use Rattle.rules.specs.declared.Governor.TheVariants.{EditBit, EraseBit, TransmitBit, Format0Bit, Format1Bit}

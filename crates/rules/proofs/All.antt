@@ -1,6 +1,5 @@
 -- A fact of every element of a list.
-use mathlib.Core.Path.{◌≡◌, ap}
-use mathlib.Core.List.{List, [], ◌∷◌, ◌++◌, map}
+use Rattle.std.proofs.Common.{◌≡◌, ap, List, [], ◌∷◌, ◌++◌, map}
 -- the worked cases and the sentences over all values are checked first, so that a wrong rule is refused there
 use Rattle.rules.proofs.Every.{every_option}
 

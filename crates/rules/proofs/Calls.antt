@@ -1,10 +1,5 @@
 -- What a call returns and leaves, taken or refused.
-use Rattle.std.specs.Prelude.{Ok, Err}
-use mathlib.Core.Path.{◌≡◌, refl}
-use mathlib.Core.Bool.{true, false}
-use mathlib.Core.List.{List}
-use Prim.Native.Nat.{ℕ}
-use lib.ListN.{length, take}
+use Rattle.std.proofs.Common.{◌≡◌, refl, true, false, List, ℕ, length, take, Ok, Err}
 use lib.Seq.{take-append_seam}
 use Rattle.words.proofs.Laws.{either}
 use Rattle.rules.specs.declared.Refusal.{Refusal}

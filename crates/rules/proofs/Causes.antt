@@ -1,13 +1,8 @@
 -- Nothing but what the documents name changes the attribute bytes, the options, suppression, the characters, the cursor, or what the PAD
 -- keeps; nothing at all the edition.
-use Rattle.std.specs.Prelude.{if◌then◌else◌, Option, Some, None, Result, Ok, Err, ⊤}
-use mathlib.Core.Path.{◌≡◌, refl, sym, ◌∙◌}
-use mathlib.Core.Bool.{Bool, true, false, not, ◌&&◌}
-use mathlib.Core.List.{List, [], ◌∷◌, ◌++◌, map}
-use Prim.Native.Nat.{ℕ, zero, suc, ◌+◌}
-use native.Mathlib.Omega.{arith}
-use borrow.Author.Tests.{not-true, eqb-true, eqb-false, ltb-true, lt-leb}
-use lib.Dec.{leb, ltb, eqb}
+use Rattle.std.proofs.Common.{◌≡◌, refl, sym, ◌∙◌, Bool, true, false, not, ◌&&◌, List, [], ◌∷◌, ◌++◌, map, ℕ, zero, suc, ◌+◌, arith, eqb-true, ltb-true, leb, ltb, eqb, if◌then◌else◌, Option, Some, None, Result, Ok, Err}
+use Rattle.std.specs.Prelude.{⊤}
+use borrow.Author.Tests.{not-true, eqb-false, lt-leb}
 use Rattle.telnet.specs.declared.Verb.{Verb}
 use Rattle.telnet.specs.declared.Verb.TheVariants.{Will, Wont, Do, Dont}
 use Rattle.telnet.specs.declared.Event.{Event}

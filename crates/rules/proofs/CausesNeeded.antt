@@ -1,12 +1,7 @@
-use Rattle.std.specs.Prelude.{if◌then◌else◌}
+use Rattle.std.proofs.Common.{◌≡◌, refl, ap, ◌∙◌, Bool, true, false, not, ◌||◌, List, [], ◌∷◌, ◌++◌, ℕ, leb, eqb, replicate, set, if◌then◌else◌}
 -- Each cause that specs/Causes.antt names can change what it is named for: no name stands there for nothing.
-use mathlib.Core.Path.{◌≡◌, refl, ap, ◌∙◌}
-use mathlib.Core.Bool.{Bool, true, false, not, ◌||◌}
-use mathlib.Core.List.{List, [], ◌∷◌, ◌++◌}
-use Prim.Native.Nat.{ℕ}
 use Prim.Native.String.{String}
-use lib.Dec.{leb, eqb, leb-zero}
-use lib.ListN.{replicate, set}
+use lib.Dec.{leb-zero}
 use Rattle.telnet.specs.Writer.{subnegotiation}
 use Rattle.words.proofs.Laws.{true_or_false, not_both, and_right}
 use Rattle.screen.specs.Cells.{cell_of}

@@ -1,11 +1,6 @@
 -- Changes keep the number of characters, and each character printable.
-use Rattle.std.specs.Prelude.{if◌then◌else◌}
-use mathlib.Core.Path.{◌≡◌, refl, sym, ◌∙◌}
-use mathlib.Core.Bool.{Bool, true, false, not, ◌&&◌, and_assoc}
-use mathlib.Core.List.{List, [], ◌∷◌, ◌++◌}
-use Prim.Native.Nat.{ℕ, zero, suc, ◌+◌, ◌-◌}
-use lib.Dec.{ltb}
-use lib.ListN.{length, get_or, set, take, drop, length-set, take-append-drop}
+use Rattle.std.proofs.Common.{◌≡◌, refl, sym, ◌∙◌, Bool, true, false, not, ◌&&◌, List, [], ◌∷◌, ◌++◌, ℕ, zero, suc, ◌+◌, ◌-◌, ltb, length, get_or, set, take, drop, length-set, take-append-drop, if◌then◌else◌}
+use mathlib.Core.Bool.{and_assoc}
 use Rattle.words.specs.Words.{tabulate}
 use Rattle.screen.specs.Words.{in_range}
 use Rattle.screen.specs.Attributes.{guarded_at}

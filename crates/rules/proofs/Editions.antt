@@ -1,10 +1,6 @@
 -- Document 02, request (vi): in either edition code to meaning and meaning to code undo each other, and no code is IAC.
-use mathlib.Core.Path.{◌≡◌, refl}
-use mathlib.Core.Bool.{true, false}
-use Prim.Native.Nat.{ℕ, ◌+◌, ◌-◌, ◌<◌}
-use native.Mathlib.Omega.{arith}
-use borrow.Author.Tests.{ltb-true, lt-ltb, le-ltb, ltb-false, eqb-false, eq-eqb, ne_eqb, not-true}
-use lib.Dec.{ltb, eqb}
+use Rattle.std.proofs.Common.{◌≡◌, refl, true, false, ℕ, ◌+◌, ◌-◌, ◌<◌, arith, ltb-true, lt-ltb, le-ltb, ltb-false, eq-eqb, ne_eqb, ltb, eqb}
+use borrow.Author.Tests.{eqb-false, not-true}
 use Rattle.words.specs.Words.{between}
 use Rattle.words.proofs.Laws.{either, true_or_false, less_or_not, and_right, in_between, below_between, above_between}
 use Rattle.rules.specs.declared.Edition.{Edition}

@@ -1,12 +1,6 @@
 -- A command that draws an ERROR changes nothing, except that MOVE CURSOR's limits the cursor.
-use Rattle.std.specs.Prelude.{Option, Some, None, Result, Ok, Err, ⊤}
-use mathlib.Core.Path.{◌≡◌, refl, ap}
-use mathlib.Core.Bool.{not}
-use mathlib.Core.List.{[]}
-use Prim.Native.Nat.{ℕ, ◌+◌}
-use native.Mathlib.Omega.{arith}
-use lib.Dec.{ltb, eqb}
-use lib.ListN.{length}
+use Rattle.std.proofs.Common.{◌≡◌, refl, ap, not, [], ℕ, ◌+◌, arith, ltb, eqb, length, Option, Some, None, Result, Ok, Err}
+use Rattle.std.specs.Prelude.{⊤}
 use Rattle.words.proofs.Laws.{either}
 use Rattle.rules.specs.declared.Held.{Held}
 use Rattle.rules.specs.declared.Command.{Command}

@@ -1,13 +1,6 @@
 -- Sentences of documents 01 and 02 that range over all codes, keys, options or bytes: each once, over all of them.
-use Rattle.std.specs.Prelude.{if◌then◌else◌, Option, Some, None, Ok}
-use mathlib.Core.Path.{◌≡◌, refl, ap, ◌∙◌}
-use mathlib.Core.Bool.{Bool, true, false}
-use mathlib.Core.List.{List, [], ◌∷◌, ◌++◌}
-use Prim.Native.Nat.{ℕ, ◌-◌, ◌<◌, min, ◌*◌}
+use Rattle.std.proofs.Common.{◌≡◌, refl, ap, ◌∙◌, Bool, true, false, List, [], ◌∷◌, ◌++◌, ℕ, ◌-◌, ◌<◌, min, ◌*◌, eqb-true, leb, eqb, get_or, replicate, if◌then◌else◌, Option, Some, None, Ok}
 use Prim.Native.String.{String}
-use borrow.Author.Tests.{eqb-true}
-use lib.Dec.{leb, eqb}
-use lib.ListN.{get_or, replicate}
 use Rattle.telnet.specs.declared.Phase.TheVariants.{Iac, InsideIac}
 use Rattle.telnet.specs.declared.Event.TheVariants.{End}
 use Rattle.telnet.specs.declared.Step.{Step}

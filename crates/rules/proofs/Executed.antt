@@ -1,11 +1,6 @@
 -- The premise of demand 3: the seven by their numbers, and what a call executes.
-use Rattle.std.specs.Prelude.{Option, Some, None, Result, Ok, Err, ⊤, leb}
-use mathlib.Core.Path.{◌≡◌, refl, ap, ap₂, ◌∙◌}
-use mathlib.Core.Bool.{false, not, ◌&&◌}
-use mathlib.Core.List.{List, [], ◌∷◌, map}
-use Prim.Native.Nat.{ℕ}
-use lib.Dec.{eqb}
-use lib.ListN.{get_or}
+use Rattle.std.proofs.Common.{◌≡◌, refl, ap, ap₂, ◌∙◌, false, not, ◌&&◌, List, [], ◌∷◌, map, ℕ, eqb, get_or, Option, Some, None, Result, Ok, Err, leb}
+use Rattle.std.specs.Prelude.{⊤}
 use Rattle.telnet.specs.declared.Verb.{Verb}
 use Rattle.telnet.specs.declared.Verb.TheVariants.{Will, Wont, Do, Dont}
 use Rattle.telnet.specs.declared.Event.{Event}

@@ -1,10 +1,6 @@
 -- Document 02, request (iii): worked cases of the line commands, and of the skips on the wrapped screen.
-use mathlib.Core.Path.{◌≡◌, refl}
-use mathlib.Core.Bool.{Bool, true, false}
-use mathlib.Core.List.{List, [], ◌∷◌, ◌++◌}
-use Prim.Native.Nat.{ℕ, ◌-◌}
+use Rattle.std.proofs.Common.{◌≡◌, refl, Bool, true, false, List, [], ◌∷◌, ◌++◌, ℕ, ◌-◌, length, replicate}
 use Prim.Native.String.{String}
-use lib.ListN.{length, replicate}
 use Rattle.screen.specs.declared.cell.Place.{Place}
 use Rattle.screen.specs.Cells.{place}
 use Rattle.rules.specs.declared.Edition.TheVariants.{September}

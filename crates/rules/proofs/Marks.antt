@@ -1,10 +1,6 @@
 -- Marks, 0 or 1 and one for each cell, stay so.
-use mathlib.Core.Path.{◌≡◌, refl, ◌∙◌}
-use mathlib.Core.Bool.{true}
-use mathlib.Core.List.{List, [], ◌∷◌}
-use Prim.Native.Nat.{ℕ, zero, suc}
-use lib.Dec.{leb}
-use lib.ListN.{length, get_or, replicate, length-replicate}
+use Rattle.std.proofs.Common.{◌≡◌, refl, ◌∙◌, true, List, [], ◌∷◌, ℕ, zero, suc, leb, length, get_or, replicate}
+use lib.ListN.{length-replicate}
 use Rattle.words.specs.Words.{tabulate}
 use Rattle.words.proofs.Laws.{either, and_left, and_right, both}
 use Rattle.screen.specs.Words.{in_range}

@@ -1,14 +1,5 @@
 -- Demand 3, its premises: all can be met at once (`met`), and where one of the seven is executed they do not suffice (`each_needed`).
-use Rattle.std.specs.Prelude.{if◌then◌else◌}
-use mathlib.Core.Path.{◌≡◌, refl, sym, ap, ◌∙◌}
-use mathlib.Core.Bool.{Bool, true, false, ◌&&◌}
-use mathlib.Core.List.{List, [], ◌∷◌, ◌++◌, map}
-use Prim.Native.Nat.{ℕ, ◌<◌}
-use native.Mathlib.Omega.{arith}
-use borrow.Author.Tests.{eq-eqb}
-use lib.Dec.{eqb}
-use lib.ListN.{length, get_or, take, replicate}
-use lib.Seq.{get_or-set_other}
+use Rattle.std.proofs.Common.{◌≡◌, refl, sym, ap, ◌∙◌, Bool, true, false, ◌&&◌, List, [], ◌∷◌, ◌++◌, map, ℕ, ◌<◌, arith, eq-eqb, eqb, length, get_or, take, replicate, get_or-set_other, if◌then◌else◌}
 use Rattle.telnet.specs.Writer.{subnegotiation}
 use Rattle.screen.specs.Attributes.{protected_at}
 use Rattle.words.proofs.Laws.{not_both, both}

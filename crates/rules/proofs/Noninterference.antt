@@ -1,12 +1,5 @@
 -- Demand 3, noninterference, proved: from one effect to lists of host bytes, calls and lists of calls.
-use Rattle.std.specs.Prelude.{Ok}
-use mathlib.Core.Path.{◌≡◌, refl, sym, ap, ap₂, ◌∙◌}
-use mathlib.Core.Bool.{true, false, not, ◌&&◌}
-use mathlib.Core.List.{List, [], ◌∷◌, ◌++◌}
-use Prim.Native.Nat.{ℕ, suc, ◌-◌, ◌<◌}
-use native.Mathlib.Omega.{arith}
-use lib.Dec.{leb}
-use lib.ListN.{length, get_or, take}
+use Rattle.std.proofs.Common.{◌≡◌, refl, sym, ap, ap₂, ◌∙◌, true, false, not, ◌&&◌, List, [], ◌∷◌, ◌++◌, ℕ, suc, ◌-◌, ◌<◌, arith, leb, length, get_or, take, Ok}
 use Rattle.screen.specs.Attributes.{protected_at}
 use Rattle.words.proofs.Laws.{either, true_or_false, and_left, and_right, both, get_d-within}
 use Rattle.rules.specs.declared.Reader.{Reader}

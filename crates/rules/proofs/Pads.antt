@@ -1,9 +1,5 @@
 -- What refusal 4 asks of a PAD holds at open, and stays so; and how much goes out at a key.
-use mathlib.Core.Path.{◌≡◌}
-use mathlib.Core.Bool.{true}
-use Prim.Native.Nat.{ℕ, ◌≤◌, ◌<◌}
-use borrow.Author.Tests.{ltb-true}
-use lib.ListN.{length}
+use Rattle.std.proofs.Common.{◌≡◌, true, ℕ, ◌≤◌, ◌<◌, ltb-true, length}
 use Rattle.words.proofs.Laws.{either, and_left, and_right, both}
 use Rattle.telnet.specs.declared.Event.{Event}
 use Rattle.telnet.specs.declared.Event.TheVariants.{Nothing, Data, Negotiation, Begin, Sub, End, EndBare, Lost}

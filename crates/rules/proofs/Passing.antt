@@ -1,15 +1,7 @@
 -- A case that passes shows what is expected of it.
-use Rattle.std.specs.Prelude.{if◌then◌else◌, Ok, Err}
-use mathlib.Core.Path.{◌≡◌, refl, sym, ap, ap₂, ◌∙◌}
-use mathlib.Core.Bool.{Bool, true, false}
-use mathlib.Core.List.{List, [], ◌∷◌, ◌++◌}
-use Prim.Native.Nat.{ℕ, zero, suc, ◌-◌, ◌<◌}
+use Rattle.std.proofs.Common.{◌≡◌, refl, sym, ap, ap₂, ◌∙◌, Bool, true, false, List, [], ◌∷◌, ◌++◌, ℕ, zero, suc, ◌-◌, ◌<◌, arith, eqb-true, eqb, length, get_or, drop, replicate, if◌then◌else◌, Ok, Err}
 use Prim.Native.String.{String}
 use native.Mathlib.Nat.{sub-zero, zero-sub, suc-sub-suc}
-use native.Mathlib.Omega.{arith}
-use borrow.Author.Tests.{eqb-true}
-use lib.Dec.{eqb}
-use lib.ListN.{length, get_or, drop, replicate}
 use lib.Seq.{take-append_seam}
 use Rattle.words.specs.Words.{ByTest}
 use Rattle.telnet.specs.declared.Phase.{Phase}

@@ -1,11 +1,5 @@
 -- What a call does once it has passed the tests that every call has to pass: sizes, buffers, characters, session, reply room.
-use Rattle.std.specs.Prelude.{Ok, Err}
-use mathlib.Core.Path.{◌≡◌, refl, ◌∙◌}
-use mathlib.Core.Bool.{Bool, true, ◌&&◌}
-use mathlib.Core.List.{List, [], ◌∷◌, ◌++◌}
-use Prim.Native.Nat.{ℕ}
-use lib.Dec.{leb}
-use lib.ListN.{length, replicate}
+use Rattle.std.proofs.Common.{◌≡◌, refl, ◌∙◌, Bool, true, ◌&&◌, List, [], ◌∷◌, ◌++◌, ℕ, leb, length, replicate, Ok, Err}
 use Rattle.words.proofs.Laws.{either, and_left, and_right}
 use Rattle.rules.specs.Session.{State, reply_room, all_printable, all_marks, session_ok}
 use Rattle.rules.specs.Refusal.{Test, Verdict, verdict, size_tests, state_tests}

@@ -1,15 +1,5 @@
 -- How many bytes a reply and its parts take.
-use Rattle.std.specs.Prelude.{if◌then◌else◌}
-use mathlib.Core.Path.{◌≡◌}
-use mathlib.Core.Bool.{Bool, true, false, not}
-use mathlib.Core.List.{List, [], ◌∷◌, ◌++◌}
-use Prim.Native.Nat.{ℕ, zero, suc, ◌+◌, ◌-◌, ◌*◌, ◌≤◌, ◌<◌}
-use native.Mathlib.Nat.{mul-suc}
-use native.Mathlib.Numerals.{add-one}
-use native.Mathlib.Omega.{arith}
-use borrow.Author.Tests.{ne_eqb}
-use lib.Dec.{eqb}
-use lib.ListN.{length, length-append, length-take, length-drop}
+use Rattle.std.proofs.Common.{◌≡◌, Bool, true, false, not, List, [], ◌∷◌, ◌++◌, ℕ, zero, suc, ◌+◌, ◌-◌, ◌*◌, ◌≤◌, ◌<◌, mul-suc, add-one, arith, ne_eqb, eqb, length, length-append, length-take, length-drop, if◌then◌else◌}
 use Rattle.telnet.specs.Writer.{doubled, subnegotiation}
 use Rattle.pad.specs.declared.parameter.Values.{Values}
 use Rattle.pad.specs.Response.{response_of}

@@ -1,14 +1,5 @@
 -- The reply room: one reply fits into 7C + 2 bytes, that many are needed, and what a call returns keeps to what it was lent.
-use Rattle.std.specs.Prelude.{Ok}
-use mathlib.Core.Path.{◌≡◌, refl, ap}
-use mathlib.Core.Bool.{false}
-use mathlib.Core.List.{List, [], ◌∷◌}
-use Prim.Native.Nat.{ℕ, ◌-◌, ◌≤◌}
-use native.Mathlib.Nat.{le_trans}
-use native.Mathlib.Omega.{arith}
-use borrow.Author.Tests.{leb-true, le-leb}
-use lib.Dec.{leb}
-use lib.ListN.{length, take, length-append, length-drop}
+use Rattle.std.proofs.Common.{◌≡◌, refl, ap, false, List, [], ◌∷◌, ℕ, ◌-◌, ◌≤◌, le_trans, arith, leb-true, le-leb, leb, length, take, length-append, length-drop, Ok}
 use Rattle.words.proofs.Laws.{either}
 use Rattle.rules.specs.declared.Edition.TheVariants.{September}
 use Rattle.rules.specs.Session.{State, reply_room, fresh_frame}

@@ -1,14 +1,7 @@
 -- Host bytes one after the other: a run of two inputs, calls that take all they are offered, and a loop over the input.
-use Rattle.std.specs.Prelude.{Ok}
-use mathlib.Core.Path.{◌≡◌, refl, sym, ap, ap₂, ◌∙◌}
-use mathlib.Core.List.{List, [], ◌∷◌, ◌++◌, append_assoc}
-use Prim.Native.Nat.{ℕ, suc, ◌+◌, ◌-◌, ◌≤◌, ◌<◌}
-use native.Mathlib.Numerals.{add-one}
-use native.Mathlib.Omega.{arith}
-use borrow.Author.Tests.{leb-true, le-leb, lt-leb}
-use lib.Dec.{leb}
-use lib.ListN.{length, length-append, get_or, drop, drop_of_length-le}
-use lib.Seq.{drop-cons, take-length, take-append_seam}
+use Rattle.std.proofs.Common.{◌≡◌, refl, sym, ap, ap₂, ◌∙◌, List, [], ◌∷◌, ◌++◌, append_assoc, ℕ, suc, ◌+◌, ◌-◌, ◌≤◌, ◌<◌, add-one, arith, leb-true, le-leb, leb, length, length-append, get_or, drop, drop_of_length-le, drop-cons, Ok}
+use borrow.Author.Tests.{lt-leb}
+use lib.Seq.{take-length, take-append_seam}
 use Rattle.words.proofs.Laws.{either}
 use Rattle.rules.specs.Session.{State, reply_room}
 use Rattle.rules.specs.Refusal.{is_taken}

@@ -1,15 +1,7 @@
 -- Safe changes and safe reply parts. A safe change keeps protected characters, and keeps two lists of characters alike that
 -- differ in protected ones alone; a safe part spells the same from both.
-use Rattle.std.specs.Prelude.{if◌then◌else◌}
-use mathlib.Core.Path.{◌≡◌, refl, sym, ap, ap₂, ◌∙◌}
-use mathlib.Core.Bool.{true, false, not, ◌&&◌}
-use mathlib.Core.List.{List, [], ◌∷◌, ◌++◌}
-use Prim.Native.Nat.{ℕ, ◌+◌, ◌-◌, ◌≤◌, ◌<◌}
-use native.Mathlib.Omega.{arith}
-use borrow.Author.Tests.{ltb-true, ltb-false, eqb-true, eqb-false, not-true}
-use lib.Dec.{ltb, eqb}
-use lib.ListN.{length, get_or, set, length-set, length-take, length-drop}
-use lib.Seq.{get_or-set_same, get_or-set_other, get_or-take, get_or-drop, ext_get_or}
+use Rattle.std.proofs.Common.{◌≡◌, refl, sym, ap, ap₂, ◌∙◌, true, false, not, ◌&&◌, List, [], ◌∷◌, ◌++◌, ℕ, ◌+◌, ◌-◌, ◌≤◌, ◌<◌, arith, ltb-true, ltb-false, eqb-true, ltb, eqb, length, get_or, set, length-set, length-take, length-drop, get_or-set_same, get_or-set_other, get_or-take, get_or-drop, ext_get_or, if◌then◌else◌}
+use borrow.Author.Tests.{eqb-false, not-true}
 use Rattle.screen.specs.Words.{in_range}
 use Rattle.screen.specs.Attributes.{protected_at}
 use Rattle.edit.specs.Edits.{shifted, lies, on_part, erased, some_marked, text_of}

@@ -1,11 +1,7 @@
 -- Worked cases beside P1 to P10, by the headings of document 01: what form F cannot show. Each list has a theorem that names the
 -- case that fails, and `shut_holds` is over all of them.
-use mathlib.Core.Path.{◌≡◌, refl}
-use mathlib.Core.Bool.{Bool, true, false}
-use mathlib.Core.List.{List, [], ◌∷◌, ◌++◌, map}
-use Prim.Native.Nat.{ℕ, ◌*◌}
+use Rattle.std.proofs.Common.{◌≡◌, refl, Bool, true, false, List, [], ◌∷◌, ◌++◌, map, ℕ, ◌*◌, length, get_or, replicate}
 use Prim.Native.String.{String}
-use lib.ListN.{length, get_or, replicate}
 use Rattle.telnet.specs.declared.Phase.TheVariants.{Rest, Iac, Negotiating, Opening, OpeningIac, Inside, InsideIac}
 use Rattle.telnet.specs.declared.Verb.TheVariants.{Do}
 use Rattle.rules.specs.Session.{State, screen}

@@ -1,13 +1,7 @@
 -- Document 02, request (i): worked cases of the X.3 PAD in the session. Each list has a theorem that names the case that fails, and
 -- `slow_holds` is over all of them.
-use Rattle.std.specs.Prelude.{if◌then◌else◌}
-use mathlib.Core.Path.{◌≡◌, refl, ◌∙◌}
-use mathlib.Core.Bool.{Bool, true, false, not, ◌&&◌, ◌||◌}
-use mathlib.Core.List.{List, [], ◌∷◌, ◌++◌}
-use Prim.Native.Nat.{ℕ, ◌-◌}
+use Rattle.std.proofs.Common.{◌≡◌, refl, ◌∙◌, Bool, true, false, not, ◌&&◌, ◌||◌, List, [], ◌∷◌, ◌++◌, ℕ, ◌-◌, ltb, length, replicate, if◌then◌else◌}
 use Prim.Native.String.{String}
-use lib.Dec.{ltb}
-use lib.ListN.{length, replicate}
 use Rattle.words.specs.Words.{between}
 use Rattle.words.proofs.Laws.{true_or_false, and_left, and_right}
 use Rattle.telnet.specs.declared.Phase.TheVariants.{Rest, Inside}

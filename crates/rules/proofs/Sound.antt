@@ -1,13 +1,6 @@
 -- What refusals 1 to 4 ask holds after an open, and stays so.
-use Rattle.std.specs.Prelude.{Ok, Err}
-use mathlib.Core.Path.{◌≡◌, refl, ap}
-use mathlib.Core.Bool.{Bool, true, false, not, ◌&&◌, ◌||◌}
-use mathlib.Core.List.{List, [], ◌∷◌, ◌++◌}
-use Prim.Native.Nat.{ℕ, zero, suc, ◌*◌, ◌≤◌}
-use native.Mathlib.Omega.{arith}
-use borrow.Author.Tests.{leb-true, le-leb, ltb-true, lt-ltb, eqb-true, eq-eqb}
-use lib.Dec.{leb, ltb, eqb}
-use lib.ListN.{length, length-replicate, replicate}
+use Rattle.std.proofs.Common.{◌≡◌, refl, ap, Bool, true, false, not, ◌&&◌, ◌||◌, List, [], ◌∷◌, ◌++◌, ℕ, zero, suc, ◌*◌, ◌≤◌, arith, leb-true, le-leb, ltb-true, lt-ltb, eqb-true, eq-eqb, leb, ltb, eqb, length, replicate, Ok, Err}
+use lib.ListN.{length-replicate}
 use Rattle.words.specs.Words.{between}
 use Rattle.screen.specs.Cells.{on_screen}
 use Rattle.words.proofs.Laws.{either, true_or_false, not_both, and_left, and_right}

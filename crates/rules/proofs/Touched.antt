@@ -1,10 +1,6 @@
 -- Document 02, request (v): worked cases of marks, of TRANSMIT MODIFIED, and of refusals 2 and 11.
-use mathlib.Core.Path.{◌≡◌}
-use mathlib.Core.Bool.{true, false}
-use mathlib.Core.List.{List, [], ◌∷◌, ◌++◌}
-use Prim.Native.Nat.{ℕ, ◌+◌, ◌-◌}
+use Rattle.std.proofs.Common.{◌≡◌, true, false, List, [], ◌∷◌, ◌++◌, ℕ, ◌+◌, ◌-◌, replicate}
 use Prim.Native.String.{String}
-use lib.ListN.{replicate}
 use Rattle.rules.specs.Session.{State, screen}
 use Rattle.rules.specs.Cases.Computing.{computing}
 use Rattle.rules.specs.Cases.Vocabulary.{

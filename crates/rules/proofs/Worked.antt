@@ -1,10 +1,6 @@
 -- Document 01, "Worked forms": P1 to P10, one list of cases and one theorem over it.
-use mathlib.Core.Path.{◌≡◌}
-use mathlib.Core.Bool.{false}
-use mathlib.Core.List.{List, [], ◌∷◌, ◌++◌}
-use Prim.Native.Nat.{ℕ}
+use Rattle.std.proofs.Common.{◌≡◌, false, List, [], ◌∷◌, ◌++◌, ℕ, length, replicate}
 use Prim.Native.String.{String}
-use lib.ListN.{length, replicate}
 use Rattle.rules.specs.Session.{State}
 use Rattle.rules.specs.Cases.Computing.{computing}
 use Rattle.rules.specs.Cases.Vocabulary.{Case, Trial, characters, case, starting, at, unchanged, see, host_trial, key_trial, refused_trial, struck, observed, expected, Passes, seeing}

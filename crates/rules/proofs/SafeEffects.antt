@@ -133,10 +133,10 @@ module _ (v : View) (protecting : v.frame.suppressed ≡ false) where
   safe_negotiated Wont option = search
   safe_negotiated Do option =
       by_option (λ o. SafeEffect v.attrs (switched_on v o option)) option (λ q. search (either (SafeEffect v.attrs)))
-      (λ q. search (either (SafeEffect v.attrs))) (search (either (SafeEffect v.attrs)))
+      (λ q. search (either (SafeEffect v.attrs))) search
   safe_negotiated Dont option =
       by_option (λ o. SafeEffect v.attrs (switched_off v o option)) option (λ q. search (either (SafeEffect v.attrs)))
-      (λ q. search (either (SafeEffect v.attrs))) (search (either (SafeEffect v.attrs)))
+      (λ q. search (either (SafeEffect v.attrs))) search
 
   -- ---- subcommands
 

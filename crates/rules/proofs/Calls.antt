@@ -1,7 +1,6 @@
 -- What a call returns and leaves, taken or refused.
-use Rattle.std.proofs.Common.{◌≡◌, refl, true, false, List, ℕ, length, take, Ok, Err}
+use Rattle.std.proofs.Common.{◌≡◌, refl, List, ℕ, length, take, Ok, Err}
 use lib.Seq.{take-append_seam}
-use Rattle.words.proofs.Laws.{either}
 use Rattle.rules.specs.declared.Refusal.{Refusal}
 use Rattle.rules.specs.Session.{State}
 use Rattle.rules.specs.Refusal.{Verdict}

@@ -5,7 +5,7 @@ use Rattle.telnet.specs.declared.Verb.{Verb}
 use Rattle.telnet.specs.declared.Verb.TheVariants.{Will, Wont, Do, Dont}
 use Rattle.telnet.specs.declared.Event.{Event}
 use Rattle.telnet.specs.declared.Event.TheVariants.{Nothing, Data, Negotiation, Begin, Sub, End, EndBare, Lost}
-use Rattle.words.proofs.Laws.{either, true_or_false, and_false}
+use Rattle.words.proofs.Laws.{either, and_false}
 use Rattle.rules.specs.declared.Held.{Held}
 use Rattle.rules.specs.declared.Edition.{Edition}
 use Rattle.rules.specs.declared.Edition.TheVariants.{June, September}
@@ -21,7 +21,7 @@ use Rattle.rules.specs.Effect.{Effect, Executed}
 use Rattle.rules.specs.Facility.{agreed}
 use Rattle.rules.specs.Command.{Row, rows, row_of, code_in, reaches, reaches_past, fault_of}
 use Rattle.rules.specs.Cursor.{cursor_guarded}
-use Rattle.rules.specs.Telnet.{option_of, is_on, accepts, switched_on, switched_off, negotiated, host_character, host_data}
+use Rattle.rules.specs.Telnet.{is_on, accepts, switched_on, switched_off, negotiated, host_character, host_data}
 use Rattle.rules.specs.Pad.{passes}
 use Rattle.rules.specs.Subcommand.{judged, looked, subcommand}
 use Rattle.rules.specs.Operation.{happening, host_byte, running, unless, host_bytes, host_refusal}

@@ -1,11 +1,11 @@
 -- What a call does once it has passed the tests that every call has to pass: sizes, buffers, characters, session, reply room.
 use Rattle.std.proofs.Common.{◌≡◌, refl, ◌∙◌, Bool, true, ◌&&◌, List, [], ◌∷◌, ◌++◌, ℕ, leb, length, replicate, Ok, Err}
-use Rattle.words.proofs.Laws.{either, and_left, and_right}
+use Rattle.words.proofs.Laws.{and_left, and_right}
 use Rattle.rules.specs.Session.{State, reply_room, all_printable, all_marks, session_ok}
 use Rattle.rules.specs.Refusal.{Test, Verdict, verdict, size_tests, state_tests}
 use Rattle.rules.specs.Operation.{Ran, running, taken_of, host_refusal, host_bytes, press_tests, key_ran, one_key}
 use Rattle.rules.specs.Call.{host, key, called}
-use Rattle.rules.specs.Cases.Vocabulary.{look, lent, Brief, in_full}
+use Rattle.rules.specs.Cases.Vocabulary.{look, lent, in_full}
 use Rattle.rules.proofs.Passing.{briefly, ends_full}
 -- the cases of document 01 are checked first
 use Rattle.rules.proofs.Shut.{shut_holds}

@@ -14,7 +14,7 @@ use Rattle.rules.specs.Session.{Screen, State, cells, reply_room, x3_cells, fres
 use Rattle.rules.specs.Edition.{edition_of}
 use Rattle.rules.specs.Refusal.{is_taken, Test, verdict, size_test, buffer_test, open_tests, size_tests, state_tests}
 use Rattle.rules.specs.Telnet.{holding, held_after}
-use Rattle.rules.specs.Operation.{Outcome, host_byte, running, unless, host_refusal, host_bytes, press_tests, key_ran, one_key, opened}
+use Rattle.rules.specs.Operation.{host_byte, running, unless, host_refusal, host_bytes, press_tests, key_ran, one_key, opened}
 use Rattle.rules.specs.Call.{Call, host, key, called, left, state_after}
 use Rattle.rules.proofs.Verdicts.{taken_or_refused}
 use Rattle.rules.proofs.Refusals.{asked}

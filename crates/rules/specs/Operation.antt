@@ -11,7 +11,7 @@ use Rattle.rules.specs.declared.Answer.{Answer}
 use Rattle.rules.specs.Session.{Screen, State, View, cells, reply_room, session, fresh_frame, fresh, screen, state, view_of}
 use Rattle.rules.specs.Number.{det_option}
 use Rattle.rules.specs.Edition.{edition_of}
-use Rattle.rules.specs.Refusal.{Test, Verdict, is_taken, verdict, open_tests, size_tests, state_tests}
+use Rattle.rules.specs.Refusal.{Test, Verdict, verdict, open_tests, size_tests, state_tests}
 use Rattle.rules.specs.Effect.{Effect, Executed, changed_all, marks_after, spelled_all, saying, quiet}
 use Rattle.rules.specs.Telnet.{held_after, cr_after, negotiated, host_data}
 use Rattle.rules.specs.Pad.{pad_after, response, takes_key, line_tests, pad_typed, typed_to, passes}

@@ -3,4 +3,3 @@ pub mod Line
 pub mod Message
 pub mod Response
 pub mod Host
-pub mod Inner

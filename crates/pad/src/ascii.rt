@@ -1,7 +1,4 @@
-// Characters by their names in ASCII, and ranges of them.
-ghost use Rattle.std.specs.Prelude.{◌≡◌};
-ghost use Rattle.words.specs.Words.{between};
-
+// Characters by their names in ASCII.
 pub const BS: u8 = 8;
 
 pub const LF: u8 = 10;
@@ -18,10 +15,3 @@ pub const SPACE: u8 = 32;
 pub const TILDE: u8 = 126;
 
 pub const DEL: u8 = 127;
-
-// From lo to hi, both included.
-pub fn is_between(lo: u8, hi: u8, byte: u8) -> bool
-    ensures { result ≡ between lo hi byte }
-{
-    lo <= byte && byte <= hi
-}

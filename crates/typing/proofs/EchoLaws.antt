@@ -1,6 +1,6 @@
 -- Laws of echoes: bytes by place; a signal by its style.
 use Rattle.std.specs.Prelude.{if◌then◌else◌}
-use Rattle.typing.proofs.Kit.{◌≡◌, refl, ◌∙◌, ℕ, zero, suc, ◌*◌, ◌/◌, ◌%◌, ◌≤◌, ◌<◌, arith, eqb, length, get_or, replicate, length-replicate, true_or_false, less_or_not}
+use Rattle.typing.proofs.Kit.{◌≡◌, refl, ◌∙◌, [], ◌∷◌, ℕ, zero, suc, ◌*◌, ◌/◌, ◌%◌, ◌≤◌, ◌<◌, arith, eqb, length, get_or, replicate, length-replicate, true_or_false}
 use Rattle.pad.specs.declared.parameter.Values.{Values}
 use Rattle.typing.specs.declared.echo.Echo.{Echo}
 use Rattle.typing.specs.declared.echo.Echo.TheVariants.{Silence, Repeated, Rubouts, Struck}
@@ -12,10 +12,6 @@ use Rattle.typing.specs.Echo.{editing_set, echoed, character_signal, line_signal
 
 pub repeated_past : (n b i : ℕ) → n ≤ i → 0 ≡ get_or (replicate n b) i 0
 repeated_past n b i h = past_end (replicate n b) i (rw (length-replicate n b) h)
-
--- at least n, and not n
-pub above : (n i : ℕ) → n ≤ i → (i ≡ n → ⊥) → suc n ≤ i
-above n i h e = less_or_not n i (λ k. k) (λ k. absurd (e (omega arith)))
 
 pub rubouts_length : (n : ℕ) → length (rubouts n) ≡ 3 * n
 unfolding rubouts
@@ -30,21 +26,14 @@ rubout_past (suc n) (suc zero) h = absurd (omega arith)
 rubout_past (suc n) (suc (suc zero)) h = absurd (omega arith)
 rubout_past (suc n) (suc (suc (suc i))) h = rubout_past n i (omega arith)
 
-pub rubout_middle : (n i : ℕ) → i / 3 < n → i % 3 ≡ 1 → get_or (rubouts n) i 0 ≡ 32
+pub rubout_within : (n i : ℕ) → i / 3 < n → get_or (8 ∷ 32 ∷ 8 ∷ []) (i % 3) 0 ≡ get_or (rubouts n) i 0
 unfolding rubouts
-rubout_middle zero i h e = absurd (omega arith)
-rubout_middle (suc n) zero h e = absurd (omega arith)
-rubout_middle (suc n) (suc zero) h e = refl
-rubout_middle (suc n) (suc (suc zero)) h e = absurd (omega arith)
-rubout_middle (suc n) (suc (suc (suc i))) h e = rubout_middle n i (omega arith) (omega arith)
-
-pub rubout_side : (n i : ℕ) → i / 3 < n → (i % 3 ≡ 1 → ⊥) → get_or (rubouts n) i 0 ≡ 8
-unfolding rubouts
-rubout_side zero i h e = absurd (omega arith)
-rubout_side (suc n) zero h e = refl
-rubout_side (suc n) (suc zero) h e = absurd (e refl)
-rubout_side (suc n) (suc (suc zero)) h e = refl
-rubout_side (suc n) (suc (suc (suc i))) h e = rubout_side n i (omega arith) (λ k. e (omega arith))
+rubout_within zero i h = absurd (omega arith)
+rubout_within (suc n) zero h = refl
+rubout_within (suc n) (suc zero) h = refl
+rubout_within (suc n) (suc (suc zero)) h = refl
+rubout_within (suc n) (suc (suc (suc i))) h =
+    let e : suc (suc (suc i)) % 3 ≡ i % 3 = omega arith in rw e (rubout_within n i (omega arith))
 
 -- ---- a signal by its style, parameter 19, which is 0 where the editing characters are not echoed
 

@@ -1,5 +1,4 @@
 -- What the proofs of this crate take from the kit and from `words`, under one name.
-use Rattle.std.specs.Prelude.{if◌then◌else◌}
 pub use mathlib.Core.Path.{◌≡◌, refl, sym, ◌∙◌}
 pub use mathlib.Core.Bool.{Bool, true, false, not, ◌&&◌}
 pub use mathlib.Core.List.{List, [], ◌∷◌, ◌++◌, append_assoc, append-nil}

@@ -1,5 +1,5 @@
 -- Laws of what goes out: characters as they are sent, one after the other.
-use Rattle.typing.proofs.Kit.{◌≡◌, refl, sym, ◌∙◌, Bool, List, [], ◌∷◌, ◌++◌, append_assoc, append-nil, ℕ, ◌+◌, ◌*◌, ◌≤◌, ◌<◌, add-one, arith, eqb, length, get_or, take, length-append, length-take, take-suc, take_all, Emitted, either, emitted_none, emitted_length, emitted_then}
+use Rattle.typing.proofs.Kit.{◌≡◌, refl, sym, ◌∙◌, Bool, List, [], ◌∷◌, ◌++◌, append_assoc, append-nil, ℕ, ◌+◌, ◌*◌, ◌≤◌, ◌<◌, add-one, arith, eqb, length, get_or, take, length-append, length-take, take-suc, take_all, Emitted, either, emitted_none, emitted_then}
 use Rattle.typing.specs.Keys.{sent_as, all_sent}
 
 -- ---- characters as they go out
@@ -23,28 +23,22 @@ module _ (lf : Bool) where
   unfolding all_sent
   all_sent_last xs b = sym (all_sent_append xs (b ∷ []) ∙ rw append-nil)
 
--- a loop has written the first i characters
+-- a loop over a text has written its first i characters
 pub record Sent (lf : Bool) (text a : List ℕ) (i : ℕ) (b : List ℕ) (at : ℕ) : Type 0 where
-  pub within : i ≤ length text
   pub written : Emitted a 0 (all_sent lf (take i text)) b at
 
 pub sent_none : {lf : Bool} {text a : List ℕ} → Sent lf text a 0 a 0
 unfolding all_sent
-sent_none = record { within = omega arith; written = emitted_none }
+sent_none = record { written = emitted_none }
 
 module _ {lf : Bool} {text a : List ℕ} {i : ℕ} {b : List ℕ} {at : ℕ} (done : Sent lf text a i b at) where
-  pub sent_room : at ≤ 2 * i
-  sent_room = omega (arith, done.written.next, all_sent_most lf (take i text), length-take i text)
+  pub sent_few : length text ≤ 128 → at ≤ 256
+  sent_few h = omega (arith, done.written.next, all_sent_most lf (take i text), length-take i text)
 
-  pub sent_length : length b ≡ length a
-  sent_length = emitted_length done.written
+  pub sent_more : {c : List ℕ} {at' : ℕ} → i < length text → Emitted b at (sent_as lf (get_or text i 0)) c at' → Sent lf text a (i + 1) c at'
+  sent_more h p = record { written = rw (add-one, take-suc text i 0, ← all_sent_last) (emitted_then done.written p) }
 
-  pub sent_more : {c : List ℕ} {x at' : ℕ} → i < length text → x ≡ get_or text i 0 → Emitted b at (sent_as lf x) c at'
-      → Sent lf text a (i + 1) c at'
-  sent_more h e p = record {
-    within = omega arith;
-    written = rw (add-one, take-suc text i 0, ← all_sent_last, ← e) (emitted_then done.written p);
-  }
-
-  pub sent_all : length text ≤ i → Emitted a 0 (all_sent lf text) b at
-  sent_all h = rw (take_all i text h) at done.written
+  -- all of them, and then one
+  pub sent_all : (t : List ℕ) (key : ℕ) {c : List ℕ} {at' : ℕ} → text ≡ t → length text ≤ i → Emitted b at (sent_as lf key) c at'
+      → Emitted a 0 (all_sent lf (t ++ (key ∷ []))) c at'
+  sent_all t key e h p = rw (← e, ← all_sent_last) (emitted_then (rw (take_all i text h) at done.written) p)

@@ -1,4 +1,5 @@
 // What is written as host text at a typed key (RFC 1053, parameters 2, 13, 19 and 20): one byte after the other, by its place.
+// An iterator would be a struct whose `next` is `echo_at` and a step: no plainer.
 ghost use Rattle.std.specs.Prelude.{◌≡◌, [], leb, length, get_or, replicate, if◌then◌else◌};
 ghost use Rattle.pad.specs.Parameters.{value_of};
 ghost use Rattle.pad.specs.Line.{capacity, text_of};
@@ -12,7 +13,7 @@ use pad::parameter::{
 };
 
 // What is echoed.
-#[derive(Clone, Copy)]
+#[derive(Clone, Copy, Debug, PartialEq, Eq)]
 pub enum Echo {
     Silence,
     // this byte, so often
@@ -28,7 +29,7 @@ pub enum Echo {
 }
 
 // By control character: its set under parameter 20.
-const CONTROL_SETS: [u8; 32] = [
+static CONTROL_SETS: [u8; 32] = [
     128, // 0 NUL
     32, // 1 SOH
     32, // 2 STX
@@ -68,7 +69,8 @@ const EDITING_SET: u8 = 64;
 
 const WITH_DEL: u8 = 128;
 
-// Styles of parameter 19 besides a character of one's own: nothing, for a printing terminal, for a display.
+// Styles of parameter 19 besides a character of one's own: nothing, for a printing terminal, for a display. They are its values as
+// bytes: an enum would be matched from the byte, and then matched again.
 const NOTHING: u8 = 0;
 
 const PRINTING: u8 = 1;
@@ -83,13 +85,11 @@ const STROKE: u8 = b'\\';
 fn echo_set(key: u8) -> u8
     ensures { result ≡ echo_set key }
 {
-    if key < SPACE {
-        return CONTROL_SETS[key as usize];
+    match key {
+        ..SPACE => CONTROL_SETS[key as usize],
+        DEL => WITH_DEL,
+        _ => 0,
     }
-    if key == DEL {
-        return WITH_DEL;
-    }
-    0
 }
 
 // Echo is on, and the mask leaves the set of this bit.
@@ -188,11 +188,12 @@ pub fn echo_of(values: Values, line: EditLine, key: u8) -> Echo
     }
 }
 
-const RUBOUT_LENGTH: usize = 3;
+// A character, wiped from a display.
+const RUBOUT: [u8; 3] = [BS, SPACE, BS];
 
-const NEW_LINE_LENGTH: usize = 2;
+const NEW_LINE: [u8; 2] = [CR, LF];
 
-const STRUCK_LENGTH: usize = 5;
+const STRUCK: [u8; 5] = [b'X', b'X', b'X', CR, LF];
 
 // How many bytes an echo has.
 #[tactic(auto, using(crate::proofs::EchoLaws::rubouts_length), unfolding(crate::specs::Echo::bytes_of))]
@@ -202,9 +203,9 @@ pub fn echo_length(echo: Echo, line: EditLine) -> usize
     match echo {
         Echo::Silence => 0,
         Echo::Repeated { byte: _, times } => times as usize,
-        Echo::Rubouts(times) => RUBOUT_LENGTH * (times as usize),
-        Echo::NewLine => NEW_LINE_LENGTH,
-        Echo::Struck => STRUCK_LENGTH,
+        Echo::Rubouts(times) => RUBOUT.len() * times as usize,
+        Echo::NewLine => NEW_LINE.len(),
+        Echo::Struck => STRUCK.len(),
         Echo::Waiting => line.length(),
     }
 }
@@ -213,47 +214,23 @@ pub fn echo_length(echo: Echo, line: EditLine) -> usize
 fn repeated_at(byte: u8, times: u8, i: usize) -> u8
     ensures { result ≡ get_or (replicate times byte) i 0 }
 {
-    if i < times as usize {
-        return byte;
-    }
-    0
+    if i < times as usize { byte } else { 0 }
 }
 
-// BS SPACE BS
-#[tactic(auto, using(crate::proofs::EchoLaws::rubout_past, crate::proofs::EchoLaws::rubout_middle, crate::proofs::EchoLaws::rubout_side))]
+#[tactic(auto, using(crate::proofs::EchoLaws::rubout_past, crate::proofs::EchoLaws::rubout_within))]
 fn rubout_at(times: u8, i: usize) -> u8
     ensures { result ≡ get_or (rubouts times) i 0 }
 {
-    if times as usize <= i / RUBOUT_LENGTH {
-        return 0;
-    }
-    if i % RUBOUT_LENGTH == 1 {
-        return SPACE;
-    }
-    BS
-}
-
-const STRUCK: [u8; STRUCK_LENGTH] = [b'X', b'X', b'X', CR, LF];
-
-#[tactic(auto, using(pad::proofs::LineLaws::past_end), unfolding(crate::specs::Echo::bytes_of))]
-fn struck_at(i: usize) -> u8
-    ensures { result ≡ get_or (bytes_of Echo.Struck []) i 0 }
-{
-    if i < STRUCK_LENGTH {
-        return STRUCK[i];
+    if i / RUBOUT.len() < times as usize {
+        return RUBOUT[i % RUBOUT.len()];
     }
     0
 }
 
-#[tactic(auto, using(pad::proofs::LineLaws::past_end, crate::proofs::EchoLaws::above), unfolding(crate::specs::Echo::bytes_of))]
-fn new_line_at(i: usize) -> u8
-    ensures { result ≡ get_or (bytes_of Echo.NewLine []) i 0 }
+fn byte_at(bytes: &[u8], i: usize) -> u8
+    ensures { result ≡ get_or bytes.now i 0 }
 {
-    match i {
-        0 => CR,
-        1 => LF,
-        _ => 0,
-    }
+    bytes.get(i).copied().unwrap_or(0)
 }
 
 // An echo's byte at a place; past the last, 0.
@@ -265,8 +242,8 @@ pub fn echo_at(echo: Echo, line: EditLine, i: usize) -> u8
         Echo::Silence => 0,
         Echo::Repeated { byte, times } => repeated_at(byte, times, i),
         Echo::Rubouts(times) => rubout_at(times, i),
-        Echo::NewLine => new_line_at(i),
-        Echo::Struck => struck_at(i),
+        Echo::NewLine => byte_at(&NEW_LINE, i),
+        Echo::Struck => byte_at(&STRUCK, i),
         Echo::Waiting => line.at(i),
     }
 }

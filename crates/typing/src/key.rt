@@ -1,10 +1,10 @@
 // What a typed key is, and what it does to the edit line (RFC 1053, parameters 3, 15 to 18 and 129).
 ghost use Rattle.std.specs.Prelude.{◌≡◌};
 ghost use Rattle.pad.specs.Line.{text_of, line_of};
-ghost use Rattle.typing.specs.Keys.{alphanumeric, forward_set, plain_kind, deletes_word, edit_kind, editing, kind_of};
+ghost use Rattle.typing.specs.Keys.{forward_set, plain_kind, deletes_word, edit_kind, editing, kind_of};
 ghost use Rattle.typing.specs.Keys.{overfills, line_after};
 
-use pad::ascii::{DEL, SPACE, is_between};
+use pad::ascii::{DEL, SPACE};
 use pad::line::EditLine;
 use pad::parameter::{
     CHARACTER_DELETE, EDITING, EXTENSION, FORWARDING, LINE_DELETE, LINE_DISPLAY, Values,
@@ -12,7 +12,7 @@ use pad::parameter::{
 };
 
 // The first four are edit keys; Plain is neither an edit nor a forwarding key.
-#[derive(Clone, Copy)]
+#[derive(Clone, Copy, Debug, PartialEq, Eq)]
 pub enum Kind {
     DeleteCharacter,
     DeleteLine,
@@ -23,7 +23,7 @@ pub enum Kind {
 }
 
 // By control character: its set under parameter 3.
-const CONTROL_SETS: [u8; 32] = [
+static CONTROL_SETS: [u8; 32] = [
     64, // 0 NUL
     64, // 1 SOH
     64, // 2 STX
@@ -63,33 +63,17 @@ const ALPHANUMERIC: u8 = 1;
 
 const WITH_DEL: u8 = 8;
 
-fn is_alphanumeric(key: u8) -> bool
-    ensures { result ≡ alphanumeric key }
-{
-    if is_between(b'0', b'9', key) {
-        return true;
-    }
-    if is_between(b'A', b'Z', key) {
-        return true;
-    }
-    is_between(b'a', b'z', key)
-}
-
 // The set that a key is in under parameter 3; 0 for none.
 #[tactic(auto, unfolding(crate::specs::Keys::forward_set))]
 fn forward_set(key: u8) -> u8
     ensures { result ≡ forward_set key }
 {
-    if key < SPACE {
-        return CONTROL_SETS[key as usize];
+    match key {
+        ..SPACE => CONTROL_SETS[key as usize],
+        DEL => WITH_DEL,
+        b'0'..=b'9' | b'A'..=b'Z' | b'a'..=b'z' => ALPHANUMERIC,
+        _ => 0,
     }
-    if key == DEL {
-        return WITH_DEL;
-    }
-    if is_alphanumeric(key) {
-        return ALPHANUMERIC;
-    }
-    0
 }
 
 // No edit key: is it in a set that parameter 3 chooses?
@@ -152,14 +136,7 @@ pub fn kind_of(values: Values, key: u8) -> Kind
 pub fn overfills(values: Values, line: EditLine, key: u8) -> bool
     ensures { result ≡ overfills values (text_of line) key }
 {
-    match kind_of(values, key) {
-        Kind::DeleteCharacter => false,
-        Kind::DeleteLine => false,
-        Kind::DisplayLine => false,
-        Kind::DeleteWord => false,
-        Kind::Forward => false,
-        Kind::Plain => EditLine::CAPACITY <= line.length(),
-    }
+    kind_of(values, key) == Kind::Plain && EditLine::CAPACITY <= line.length()
 }
 
 // The line after a key.
@@ -169,10 +146,9 @@ pub fn line_after(values: Values, line: EditLine, key: u8) -> EditLine
 {
     match kind_of(values, key) {
         Kind::DeleteCharacter => line.without_last(),
-        Kind::DeleteLine => EditLine::new(),
-        Kind::DisplayLine => line.tidied(),
         Kind::DeleteWord => line.without_word(),
-        Kind::Forward => EditLine::new(),
+        Kind::DeleteLine | Kind::Forward => EditLine::new(),
+        Kind::DisplayLine => line.tidied(),
         Kind::Plain => line.push(key),
     }
 }

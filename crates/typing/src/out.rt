@@ -13,10 +13,7 @@ use pad::parameter::{LF_INSERTION, LF_ON_INPUT, Values, has};
 fn after_cr(lf: bool) -> u8
     ensures { result ≡ (if lf then 10 else 0) }
 {
-    if lf {
-        return LF;
-    }
-    0
+    if lf { LF } else { 0 }
 }
 
 // A byte, where the buffer has room for it.
@@ -47,12 +44,10 @@ fn put_character(out: &mut [u8], at: usize, byte: u8, lf: bool) -> usize
 fn put_forwarded(lf: bool, line: EditLine, key: u8, out: &mut [u8]) -> usize
     ensures { Emitted out.old 0 (all_sent lf (text_of line ++ (key ∷ []))) out.new result }
 {
-    let n = line.length();
+    let text = line.text();
     let mut at = 0;
-    let mut i = 0;
-    while i < n {
-        at = put_character(out, at, line.at(i), lf);
-        i += 1;
+    for &byte in text {
+        at = put_character(out, at, byte, lf);
     }
     put_character(out, at, key, lf)
 }
@@ -64,11 +59,7 @@ pub fn write_out(values: Values, line: EditLine, key: u8, out: &mut [u8]) -> usi
     ensures { Emitted out.old 0 (out_of values (text_of line) key) out.new result }
 {
     match kind_of(values, key) {
-        Kind::DeleteCharacter => 0,
-        Kind::DeleteLine => 0,
-        Kind::DisplayLine => 0,
-        Kind::DeleteWord => 0,
         Kind::Forward => put_forwarded(has(values, LF_INSERTION, LF_ON_INPUT), line, key, out),
-        Kind::Plain => 0,
+        _ => 0,
     }
 }

@@ -10,8 +10,5 @@ ghost use Rattle.words.specs.Words.{bit};
 pub fn bit(weight: u8, byte: u8) -> bool
     ensures { result ≡ bit weight byte }
 {
-    if weight == 0 {
-        return false;
-    }
-    byte / weight % 2 == 1
+    weight != 0 && byte / weight % 2 == 1
 }

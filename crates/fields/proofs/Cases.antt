@@ -1,4 +1,5 @@
 -- Document 02, request (vii): the list of form F and what it answers, worked out.
+use Rattle.std.specs.Prelude.{None}
 use mathlib.Core.Path.{◌≡◌, refl}
 use mathlib.Core.Bool.{true, false}
 use mathlib.Core.List.{List, [], ◌∷◌, ◌++◌}
@@ -7,9 +8,8 @@ use lib.ListN.{replicate}
 use Rattle.screen.specs.Words.{first_of, last_of}
 use Rattle.screen.specs.Attributes.{protected_at}
 use Rattle.screen.specs.Fields.{starts_at, opens_at, field_start, field_end}
-use Rattle.screen.specs.FieldList.{unused, fields_from, fields_of, agrees_from, too_short, agrees, opens_before, found_by_reading, found_from, found_by_list}
+use Rattle.screen.specs.FieldList.{unused, fields_from, fields_of, agrees_from, too_short, agrees, opens_before, found_by_reading, found, found_from, found_by_list}
 use Rattle.screen.specs.declared.record.FieldRecord.{FieldRecord}
-use Rattle.screen.specs.declared.record.Found.TheVariants.{In, InNone}
 
 abbrev field : ℕ → ℕ → FieldRecord
 field start length = record { start = start; length = length }
@@ -34,9 +34,9 @@ pub record Worked : Type 0 where
   pub enough : too_short list_f 16 ≡ false
   pub stale : agrees (field 0 16 ∷ (replicate 14 unused ++ (field 3 3 ∷ []))) (replicate 16 0) ≡ false
   -- at (3,0) and (6,1) in a field, by its number among the unprotected ones; at (6,0) in none
-  pub first : (found_by_list list_f form_f 3 ≡ In 1 (field 3 3)) × (found_by_reading form_f 3 ≡ In 1 (field 3 3))
-  pub second : (found_by_list list_f form_f 14 ≡ In 2 (field 13 3)) × (found_by_reading form_f 14 ≡ In 2 (field 13 3))
-  pub in_none : (found_by_list list_f form_f 6 ≡ InNone) × (found_by_reading form_f 6 ≡ InNone)
+  pub first : (found_by_list list_f form_f 3 ≡ found 1 (field 3 3)) × (found_by_reading form_f 3 ≡ found 1 (field 3 3))
+  pub second : (found_by_list list_f form_f 14 ≡ found 2 (field 13 3)) × (found_by_reading form_f 14 ≡ found 2 (field 13 3))
+  pub in_none : (found_by_list list_f form_f 6 ≡ None) × (found_by_reading form_f 6 ≡ None)
 
 pub worked : Worked
 unfolding first_of last_of protected_at starts_at opens_at field_start field_end fields_from agrees_from opens_before found_from

@@ -1,6 +1,7 @@
 -- Laws of the count of the field starts.
 use mathlib.Core.Path.{◌≡◌, refl, sym, ◌∙◌}
-use mathlib.Core.Bool.{true, false}
+use Rattle.std.specs.Int.{from_bool}
+use mathlib.Core.Bool.{true, false, not}
 use mathlib.Core.List.{List}
 use Prim.Native.Nat.{ℕ, zero, suc, ◌+◌, ◌-◌, ◌≤◌, ◌<◌}
 use native.Mathlib.Omega.{arith}
@@ -11,7 +12,7 @@ use lib.ListN.{length, get_or}
 use Rattle.words.proofs.Laws.{either, true_or_false, less_or_not, get_d-within}
 use Rattle.screen.specs.Fields.{starts_at, field_end}
 use Rattle.screen.proofs.FieldLaws.{starts_after, rest_equal}
-use Rattle.fields.specs.Inner.Starts.{starts_before, starts_here}
+use Rattle.fields.specs.Inner.Starts.{starts_before}
 
 module _ (attrs : List ℕ) where
   -- not more starts than cells, and not fewer further on
@@ -57,7 +58,7 @@ module _ (attrs : List ℕ) where
   first_starts = refl
 
   pub starts_next : (i : ℕ) → 0 < i → i < length attrs
-      → starts_before attrs (i + 1) ≡ starts_before attrs i + starts_here (get_or attrs (i - 1) 0) (get_or attrs i 0)
+      → starts_before attrs (i + 1) ≡ starts_before attrs i + from_bool (not (eqb (get_or attrs (i - 1) 0) (get_or attrs i 0)))
   unfolding starts_before
   starts_next i some h =
       let e = starts_after attrs i (λ z. omega arith) in

@@ -1,4 +1,5 @@
 pub mod Cases
 pub mod CountLaws
+pub mod FindLaws
 pub mod RecordLaws
 pub mod ScanLaws

@@ -1,21 +1,24 @@
 -- Laws of unused records, and of the list written anew.
-use mathlib.Core.Path.{◌≡◌, refl, ◌∙◌}
+use mathlib.Core.Path.{◌≡◌, refl, ap, ◌∙◌}
 use mathlib.Core.Bool.{Bool, true, false, ◌&&◌}
-use mathlib.Core.List.{List, ◌++◌, append_assoc, append-nil}
-use Prim.Native.Nat.{ℕ, suc, ◌+◌, ◌-◌, ◌≤◌, ◌<◌, min}
+use mathlib.Core.List.{List, ◌∷◌, ◌++◌, append_assoc, append-nil}
+use Prim.Native.Nat.{ℕ, zero, suc, ◌+◌, ◌-◌, ◌≤◌, ◌<◌, min}
 use native.Mathlib.Omega.{arith}
 use native.Mathlib.Numerals.{add-one}
 use borrow.Author.Tests.{lt-ltb, le-ltb, ne_eqb, eqb-true, eqb-false}
+use borrow.Rule.Slice.PartMut.{put_mid, Post-is}
 use lib.Bits.{bit_or, or_zero_l, or_add_and, and_le_r}
 use lib.Dec.{eqb, ltb}
-use lib.ListN.{length, get_or, set, take, drop, drop_of_length-le, length-set, take-append-drop}
-use lib.Seq.{drop-cons, take_all, take-suc-set, drop-set-lt}
-use Rattle.words.proofs.Laws.{true_or_false, less_or_not, and_true}
+use lib.ListN.{length, length-drop, replicate, get_or, set, take, drop, drop_of_length-le, length-set}
+use lib.Seq.{drop-cons, take_all, take-suc-set}
+use Rattle.std.proofs.lemmas.List.{drop_min, length-take}
+use Rattle.words.proofs.Laws.{true_or_false, and_true}
 use Rattle.screen.specs.Fields.{field_end}
 use Rattle.screen.specs.FieldList.{unused, record_of, fields_from, fields_of, agrees}
 use Rattle.screen.specs.declared.record.FieldRecord.{FieldRecord}
-use Rattle.screen.proofs.FieldListLaws.{agrees_own, fields_from-length}
-use Rattle.fields.specs.Rebuilt.{records_written, rebuilt}
+use Rattle.screen.proofs.FieldLaws.{end_gt}
+use Rattle.screen.proofs.FieldListLaws.{past_end, agrees_own, fields_from-length}
+use Rattle.fields.specs.Rebuilt.{rebuilt}
 use Rattle.fields.specs.Inner.Records.{joined, is_unused, all_unused}
 
 -- ---- unused records
@@ -55,52 +58,65 @@ unused_end xs k any h = rw (drop_of_length-le xs {i = k} h) (and_true any)
 
 -- ---- the list written anew
 module _ (attrs : List ℕ) where
-  -- the list zs, after what is still to be written: the records from k up to `end`, the first of them the field at the cell
-  abbrev pub to_be : List FieldRecord → ℕ → ℕ → ℕ → List FieldRecord
-  to_be zs k end cell = take k zs ++ (take (end - k) (fields_from (length zs - k) attrs cell) ++ drop end zs)
+  -- the list zs with its first k records written, and behind them what is still to be written, from the field at the cell on
+  abbrev pub to_be : List FieldRecord → ℕ → ℕ → List FieldRecord
+  to_be zs k cell = take k zs ++ fields_from (length zs - k) attrs cell
 
-  pub to_be-next : (zs : List FieldRecord) (k end cell : ℕ) → k < end → end ≤ length zs
-      → to_be (set zs k (record_of cell (field_end attrs cell))) (k + 1) end (field_end attrs cell) ≡ to_be zs k end cell
+  pub to_be-first : (zs : List FieldRecord) → to_be zs 0 0 ≡ fields_of (length zs) attrs
+  to_be-first zs = let a : length zs - 0 ≡ length zs = omega arith in rw a
+
+  pub to_be-next : (zs : List FieldRecord) (k cell : ℕ) → k < length zs → cell < length attrs
+      → to_be (set zs k (record { start = cell; length = field_end attrs cell - cell })) (k + 1) (field_end attrs cell) ≡ to_be zs k cell
   unfolding fields_from
-  to_be-next zs k end cell h room =
-      let f : FieldRecord = record_of cell (field_end attrs cell) in
-      let l : k < length zs = omega arith in
-      let m : end - k ≡ suc (end - (k + 1)) = omega arith in
-      let n : length zs - k ≡ suc (length zs - (k + 1)) = omega (arith, l) in
-      rw (m, n, length-set zs k f, drop-set-lt end zs k f h, add-one k, take-suc-set zs k f l, append_assoc)
+  to_be-next zs k cell h some =
+      let f : FieldRecord = record { start = cell; length = field_end attrs cell - cell } in
+      let n : length zs - k ≡ suc (length zs - (k + 1)) = omega (arith, h) in
+      rw (n, length-set zs k f, add-one k, take-suc-set zs k f h, append_assoc, lt-ltb cell (field_end attrs cell) (end_gt attrs cell some))
 
-  pub to_be-end : (zs : List FieldRecord) (k end cell : ℕ) → end ≤ k → k ≤ end → to_be zs k end cell ≡ zs
-  to_be-end zs k end cell h g =
-      let m : end - k ≡ 0 = omega arith in
-      let e : end ≡ k = omega arith in
-      rw (m, e, take-append-drop)
+  -- behind the last field, zeros
+  zeros_from : (n cell : ℕ) → length attrs ≤ cell → fields_from n attrs cell ≡ replicate n unused
+  unfolding fields_from
+  zeros_from zero cell h = refl
+  zeros_from (suc n) cell h =
+      let e = past_end attrs cell h in
+      rw (e, le-ltb cell (length attrs) h) (ap (λ xs. unused ∷ xs) (zeros_from n (length attrs) (omega arith)))
 
-  -- a record is written only for a screen
-  pub of_screen : (count cells room k : ℕ) → k < min (records_written count cells) room → cells ≤ 8448
-  of_screen count cells room k h = less_or_not 8448 cells (λ l. absurd (none (rw (lt-ltb 8448 cells l) at h))) (λ l. l)
-    where
-      none : k < min 0 room → ⊥
-      none l = omega arith
+  pub to_be-zeros : (zs part : List FieldRecord) (k cell : ℕ) → k ≤ length zs → length attrs ≤ cell
+      → part ≡ replicate (length (take (length zs - k) (drop k zs))) unused → put_mid k (length zs - k) zs part ≡ to_be zs k cell
+  to_be-zeros zs part k cell h far e =
+      let n : min (length zs - k) (length zs - k) ≡ length zs - k = omega arith in
+      rw (
+        Post-is k (length zs) zs h,
+        e,
+        length-take,
+        length-drop,
+        n,
+        drop_of_length-le zs {i = length zs} (omega arith),
+        append-nil,
+        zeros_from (length zs - k) cell far,
+      )
 
-  -- what is to be at first is what is promised
-  pub to_be-first : (list : List FieldRecord) (count : ℕ)
-      → to_be list 0 (min (records_written count (length attrs)) (length list)) 0 ≡ rebuilt count attrs list
-  to_be-first list count = go (records_written count (length attrs))
-    where
-      go : (n : ℕ) → to_be list 0 (min n (length list)) 0 ≡ take n (fields_of (length list) attrs) ++ drop n list
-      go n =
-          let a : length list - 0 ≡ length list = omega arith in
-          less_or_not n (length list)
-          (λ h. let m : min n (length list) ≡ n = omega arith in let b : n - 0 ≡ n = omega arith in rw (m, a, b))
-          (λ h. let m : min n (length list) ≡ length list = omega arith in
-          rw (
-            m,
-            a,
-            drop_of_length-le list {i = length list} (omega arith),
-            drop_of_length-le list {i = n} h,
-            take_all n (fields_of (length list) attrs) (omega (arith, fields_from-length (length list) attrs 0)),
-            take_all (length list) (fields_of (length list) attrs) (omega (arith, fields_from-length (length list) attrs 0)),
-          ))
+  pub to_be-end : (zs : List FieldRecord) (k cell : ℕ) → length zs ≤ k → to_be zs k cell ≡ zs
+  unfolding fields_from
+  to_be-end zs k cell h =
+      let n : length zs - k ≡ 0 = omega (arith, h) in
+      rw (n, take_all k zs h, append-nil)
+
+  -- fewer records of the fields are the first of more
+  fields_less : (m n cell : ℕ) → take m (fields_from n attrs cell) ≡ fields_from (min m n) attrs cell
+  unfolding fields_from
+  fields_less zero n cell = let a : min 0 n ≡ 0 = omega arith in rw a
+  fields_less (suc m) zero cell = let a : min (suc m) 0 ≡ 0 = omega arith in rw a
+  fields_less (suc m) (suc n) cell =
+      let a : min (suc m) (suc n) ≡ suc (min m n) = omega arith in
+      rw a (ap (λ xs. record_of cell (field_end attrs cell) ∷ xs) (fields_less m n (field_end attrs cell)))
+
+  -- the first records written, and the others as they are
+  pub rebuilt_first : (list part : List FieldRecord) (count end : ℕ) → length attrs ≤ 8448 → end ≡ min count (length list)
+      → part ≡ fields_of (length (take end list)) attrs → part ++ drop end list ≡ rebuilt count attrs list
+  rebuilt_first list part count end small e p =
+      let n : min end (length list) ≡ end = omega (arith, e) in
+      rw (p, length-take, n, e, le-ltb 8448 (length attrs) small, fields_less count (length list) 0, drop_min)
 
   -- enough records were asked for, or none
   pub rebuilt_all : (list : List FieldRecord) (count : ℕ) → length attrs ≤ 8448 → length list ≤ count
@@ -120,3 +136,5 @@ module _ (attrs : List ℕ) where
   pub rebuilt_agrees : (list : List FieldRecord) (count : ℕ) → length attrs ≤ 8448 → length attrs ≤ length list → length list ≤ count
       → agrees (rebuilt count attrs list) attrs ≡ true
   rebuilt_agrees list count small room h = rw (rebuilt_all list count small h) (agrees_own attrs (length list) room)
+
+pub ruleset writing = (to_be-first, to_be-next, to_be-end, end_gt)

@@ -1,33 +1,39 @@
 // The list written anew.
-ghost use Rattle.std.specs.Prelude.{◌≡◌, min};
-ghost use Rattle.fields.specs.Rebuilt.{records_written, rebuilt};
+ghost use Rattle.std.specs.Prelude.{◌≡◌, ◌≤◌, length};
+ghost use Rattle.screen.specs.FieldList.{fields_of};
+ghost use Rattle.fields.specs.Rebuilt.{rebuilt};
 
-use crate::field::next_field;
-use screen::number::least;
+use screen::field::field_end;
 use screen::record::FieldRecord;
 
-// Not more records than there are.
-fn records_to_write(count: usize, room: usize, cells: usize) -> usize
-    ensures { result ≡ min (records_written count cells) room }
+// Every record, from the first field on. Most records of a list stand behind the last field: those are written at once.
+#[tactic(auto, using(crate::proofs::RecordLaws::writing, screen::proofs::FieldLaws::end_le))]
+fn write_fields(list: &mut [FieldRecord], attrs: &[u8])
+    requires { length attrs.now ≤ 8448 }
+    ensures { list.new ≡ fields_of (length list.old) attrs.now }
 {
-    if 8448 < cells {
-        return 0;
+    let mut cell = 0;
+    for k in 0..list.len() {
+        if attrs.len() <= cell {
+            list[k..].fill(FieldRecord::default());
+            return;
+        }
+        let end = field_end(attrs, cell);
+        list[k] = FieldRecord {
+            start: cell as u32,
+            length: (end - cell) as u32,
+        };
+        cell = end;
     }
-    least(count, room)
 }
 
-// Writes the first `count` records of the list; the others stay.
-#[tactic(auto, using(crate::proofs::RecordLaws::of_screen))]
+// Writes the first `count` records of the list; the others stay. No screen has more than 8,448 cells.
+#[tactic(auto, using(crate::proofs::RecordLaws::rebuilt_first))]
 pub fn rebuild(list: &mut [FieldRecord], attrs: &[u8], count: usize)
     ensures { list.new ≡ rebuilt count attrs.now list.old }
 {
-    let end = records_to_write(count, list.len(), attrs.len());
-    let mut cell = 0;
-    let mut k = 0;
-    while k < end {
-        let next = next_field(attrs, cell);
-        list[k] = next.field;
-        cell = next.end;
-        k += 1;
+    if attrs.len() <= 8448 {
+        let end = count.min(list.len());
+        write_fields(&mut list[..end], attrs);
     }
 }

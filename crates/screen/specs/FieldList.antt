@@ -1,10 +1,9 @@
 -- Document 02, request (vii): the list of all fields as records, and the unprotected field that a cell is in.
-use Rattle.std.specs.Prelude.{◌≡◌, Bool, false, not, List, [], ◌∷◌, ℕ, zero, suc, ◌+◌, ◌-◌, ◌≤◌, ◌<◌, eqb, ltb, length, get_or, if◌then◌else◌}
+use Rattle.std.specs.Prelude.{◌≡◌, Bool, false, not, List, [], ◌∷◌, ℕ, zero, suc, ◌+◌, ◌-◌, ◌≤◌, ◌<◌, eqb, ltb, length, get_or, Option, Some, None, if◌then◌else◌}
 use Rattle.screen.specs.Attributes.{protected_at}
 use Rattle.screen.specs.Fields.{Field, opens_at, field_start, field_end}
 use Rattle.screen.specs.declared.record.FieldRecord.{FieldRecord}
 use Rattle.screen.specs.declared.record.Found.{Found}
-use Rattle.screen.specs.declared.record.Found.TheVariants.{In, InNone}
 
 -- ---- the list
 
@@ -64,10 +63,13 @@ unfoldable pub opens_before : List ℕ → ℕ → ℕ
 opens_before attrs zero = 0
 opens_before attrs (suc i) = if opens_at attrs i then suc (opens_before attrs i) else opens_before attrs i
 
-abbrev pub found_by_reading : List ℕ → ℕ → Found
+abbrev pub found : ℕ → FieldRecord → Option Found
+found number field = Some (record { number = number; field = field })
+
+abbrev pub found_by_reading : List ℕ → ℕ → Option Found
 found_by_reading attrs cell =
-    if protected_at attrs cell then InNone
-    else In (opens_before attrs (suc cell)) (record { start = field_start attrs cell; length = field_end attrs cell - field_start attrs cell })
+    if protected_at attrs cell then None
+    else found (opens_before attrs (suc cell)) (record { start = field_start attrs cell; length = field_end attrs cell - field_start attrs cell })
 
 -- by the list: its records are gone through up to the one that has the cell, or the first zeros, and the unprotected ones are
 -- counted. Of a field, one attribute byte is read. That both are the same: `query_reads` in proofs/FieldListLaws.antt.
@@ -77,13 +79,13 @@ has_cell field cell = if ltb cell field.start then false else ltb (cell - field.
 abbrev pub counted : ℕ → Bool → ℕ
 counted number protected = if protected then number else number + 1
 
-unfoldable pub found_from : ℕ → List FieldRecord → List ℕ → ℕ → Found
-found_from before [] attrs cell = InNone
+unfoldable pub found_from : ℕ → List FieldRecord → List ℕ → ℕ → Option Found
+found_from before [] attrs cell = None
 found_from before (field ∷ rest) attrs cell =
     let protected = protected_at attrs field.start in
-    if eqb field.length 0 then InNone
-    else if has_cell field cell then (if protected then InNone else In (before + 1) field)
+    if eqb field.length 0 then None
+    else if has_cell field cell then (if protected then None else found (before + 1) field)
     else found_from (counted before protected) rest attrs cell
 
-abbrev pub found_by_list : List FieldRecord → List ℕ → ℕ → Found
+abbrev pub found_by_list : List FieldRecord → List ℕ → ℕ → Option Found
 found_by_list list attrs cell = found_from 0 list attrs cell

@@ -13,22 +13,18 @@ pub fn protection(attr: u8) -> u8
 pub fn attribute_at(attrs: &[u8], cell: usize) -> u8
     ensures { result ≡ attribute_at attrs.now cell }
 {
-    if cell < attrs.len() { attrs[cell] } else { 8 }
+    attrs.get(cell).copied().unwrap_or(8)
 }
 
 #[tactic(auto, unfolding(crate::specs::Attributes::protected_at))]
 pub fn is_protected(attrs: &[u8], cell: usize) -> bool
     ensures { result ≡ protected_at attrs.now cell }
 {
-    let attr = attribute_at(attrs, cell);
-    protection(attr) == 1
+    protection(attribute_at(attrs, cell)) == 1
 }
 
 pub fn is_guarded(suppressed: bool, attrs: &[u8], cell: usize) -> bool
     ensures { result ≡ guarded_at suppressed attrs.now cell }
 {
-    if suppressed {
-        return false;
-    }
-    is_protected(attrs, cell)
+    !suppressed && is_protected(attrs, cell)
 }

@@ -6,18 +6,6 @@ ghost use Rattle.screen.specs.Inner.Skips.{NoneIn, passes_protected, passes_alik
 use crate::attribute::protection;
 use crate::scan::Target;
 
-fn both(a: bool, b: bool) -> bool
-    ensures { result ≡ (a && b) }
-{
-    if a { b } else { false }
-}
-
-fn either(a: bool, b: bool) -> bool
-    ensures { result ≡ (a || b) }
-{
-    if a { true } else { b }
-}
-
 #[tactic(auto, unfolding(crate::specs::Inner::Skips::passes_protected))]
 fn passes_protected(target: Target) -> bool
     ensures { result ≡ passes_protected target }
@@ -34,18 +22,15 @@ fn passes_alike(target: Target) -> bool
     ensures { result ≡ passes_alike target }
 {
     match target {
-        Target::FieldStart => true,
-        Target::UnprotectedStart => true,
-        Target::Open(suppressed) => false,
+        Target::FieldStart | Target::UnprotectedStart => true,
+        Target::Open(_) => false,
     }
 }
 
 fn is_passed(protected: bool, alike: bool, before: u8, here: u8) -> bool
     ensures { result ≡ passed protected alike before here }
 {
-    let shut = both(protected, protection(here) == 1);
-    let same = both(alike, before == here);
-    either(shut, same)
+    (protected & (protection(here) == 1)) | (alike & (before == here))
 }
 
 // Is none of the block's cells what is looked for?
@@ -57,11 +42,8 @@ fn none_in_block(attrs: &[u8], target: Target, cell: usize) -> bool
     let protected = passes_protected(target);
     let alike = passes_alike(target);
     let mut none = true;
-    let mut i = 0;
-    while i < 32 {
-        let pass = is_passed(protected, alike, attrs[cell + i - 1], attrs[cell + i]);
-        none = both(none, pass);
-        i += 1;
+    for i in 0..32 {
+        none &= is_passed(protected, alike, attrs[cell + i - 1], attrs[cell + i]);
     }
     none
 }
@@ -73,11 +55,7 @@ pub(crate) fn past(attrs: &[u8], target: Target, from: usize, end: usize) -> usi
     ensures { (from ≤ result) × (result ≤ end) × NoneIn attrs.now target from result }
 {
     let mut cell = from;
-    while 32 <= end - cell {
-        let none = none_in_block(attrs, target, cell);
-        if !none {
-            break;
-        }
+    while 32 <= end - cell && none_in_block(attrs, target, cell) {
         cell += 32;
     }
     cell
@@ -90,11 +68,7 @@ pub(crate) fn behind(attrs: &[u8], target: Target, end: usize) -> usize
     ensures { (result ≤ end) × NoneIn attrs.now target result end }
 {
     let mut cell = end;
-    while 32 < cell {
-        let none = none_in_block(attrs, target, cell - 32);
-        if !none {
-            break;
-        }
+    while 32 < cell && none_in_block(attrs, target, cell - 32) {
         cell -= 32;
     }
     cell

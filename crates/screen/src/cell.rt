@@ -3,15 +3,13 @@
 ghost use Rattle.std.specs.Prelude.{◌≡◌};
 ghost use Rattle.screen.specs.Cells.{cell_of, on_screen, line_start, line_end, place_or_origin};
 
-use crate::number::wide;
-
-#[derive(Clone, Copy)]
+#[derive(Clone, Copy, Debug, Default, PartialEq, Eq)]
 pub struct Column(pub u8);
 
-#[derive(Clone, Copy)]
+#[derive(Clone, Copy, Debug, Default, PartialEq, Eq)]
 pub struct Line(pub u8);
 
-#[derive(Clone, Copy)]
+#[derive(Clone, Copy, Debug, Default, PartialEq, Eq)]
 pub struct Place {
     pub x: Column,
     pub y: Line,
@@ -29,7 +27,7 @@ pub fn on_screen(width: u8, height: u8, place: Place) -> bool
 pub fn line_start(width: u8, y: Line) -> usize
     ensures { result ≡ line_start width y }
 {
-    wide(y.0) * wide(width)
+    usize::from(y.0) * usize::from(width)
 }
 
 // The cell after a line's last.
@@ -37,31 +35,27 @@ pub fn line_start(width: u8, y: Line) -> usize
 pub fn line_end(width: u8, y: Line) -> usize
     ensures { result ≡ line_end width y }
 {
-    line_start(width, y) + wide(width)
+    line_start(width, y) + usize::from(width)
 }
 
 #[tactic(auto, using(crate::proofs::CellLaws::byte_product))]
 pub fn cell_of(width: u8, place: Place) -> usize
     ensures { result ≡ cell_of width place }
 {
-    let y = place.y;
-    line_start(width, y) + wide(place.x.0)
+    line_start(width, place.y) + usize::from(place.x.0)
 }
 
 #[tactic(auto, using(crate::proofs::CellLaws::place_on_screen), unfolding(crate::specs::Cells::place_or_origin))]
 pub fn place_of(width: u8, cell: usize) -> Place
     ensures { result ≡ place_or_origin width cell }
 {
-    let m = wide(width);
+    let m = usize::from(width);
     if cell < 256 * m {
         Place {
             x: Column((cell % m) as u8),
             y: Line((cell / m) as u8),
         }
     } else {
-        Place {
-            x: Column(0),
-            y: Line(0),
-        }
+        Place::default()
     }
 }

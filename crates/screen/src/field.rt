@@ -5,7 +5,6 @@ ghost use Rattle.screen.specs.Words.{some_in};
 ghost use Rattle.screen.specs.Fields.{field_start, field_end, span_end};
 
 use crate::attribute::is_guarded;
-use crate::number::least;
 use crate::scan::{Target, first, last};
 
 // The first cell of the cell's field.
@@ -13,11 +12,7 @@ use crate::scan::{Target, first, last};
 pub fn field_start(attrs: &[u8], cell: usize) -> usize
     ensures { result ≡ field_start attrs.now cell }
 {
-    if cell < attrs.len() {
-        last(attrs, Target::FieldStart, cell + 1, 0)
-    } else {
-        last(attrs, Target::FieldStart, attrs.len(), 0)
-    }
+    last(attrs, Target::FieldStart, cell.saturating_add(1), 0)
 }
 
 // The cell after the last one of the cell's field.
@@ -25,11 +20,8 @@ pub fn field_start(attrs: &[u8], cell: usize) -> usize
 pub fn field_end(attrs: &[u8], cell: usize) -> usize
     ensures { result ≡ field_end attrs.now cell }
 {
-    if cell < attrs.len() {
-        first(attrs, Target::FieldStart, cell + 1, attrs.len())
-    } else {
-        attrs.len()
-    }
+    let next = cell.saturating_add(1);
+    first(attrs, Target::FieldStart, next, attrs.len())
 }
 
 // The cell after the last one of the edit span, which starts at the cell; `stop` is the end of its line.
@@ -40,8 +32,7 @@ pub fn span_end(suppressed: bool, attrs: &[u8], cell: usize, stop: usize) -> usi
     if suppressed {
         return stop;
     }
-    let end = field_end(attrs, cell);
-    least(end, stop)
+    field_end(attrs, cell).min(stop)
 }
 
 // Is some cell from `from` on guarded? A field is guarded as a whole, so one look at each is enough.
@@ -51,8 +42,7 @@ pub fn some_guarded(suppressed: bool, attrs: &[u8], from: usize) -> bool
 {
     let mut cell = from;
     while cell < attrs.len() {
-        let guarded = is_guarded(suppressed, attrs, cell);
-        if guarded {
+        if is_guarded(suppressed, attrs, cell) {
             return true;
         }
         cell = field_end(attrs, cell);

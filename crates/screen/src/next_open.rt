@@ -27,24 +27,20 @@ fn open_after(suppressed: bool, attrs: &[u8], width: u8, height: u8, cursor: Pla
     ensures { result ≡ place_of width (next_open suppressed attrs.now (cell_of width cursor)) }
 {
     let from = past_guarded(suppressed, attrs, width, height, cursor);
-    let mut x = from.x.0;
-    let mut y = from.y.0;
+    let mut left = from.x.0;
     let mut open = cursor;
-    'scan: while y < height {
-        while x < width {
+    'scan: for y in from.y.0..height {
+        for x in left..width {
             let here = Place {
                 x: Column(x),
                 y: Line(y),
             };
-            let guarded = is_guarded(suppressed, attrs, cell_of(width, here));
-            if !guarded {
+            if !is_guarded(suppressed, attrs, cell_of(width, here)) {
                 open = here;
                 break 'scan;
             }
-            x += 1;
         }
-        x = 0;
-        y += 1;
+        left = 0;
     }
     open
 }
@@ -54,11 +50,7 @@ fn open_after(suppressed: bool, attrs: &[u8], width: u8, height: u8, cursor: Pla
 pub fn next_open(suppressed: bool, attrs: &[u8], width: u8, height: u8, cursor: Place) -> Place
     ensures { result ≡ next_open_place suppressed attrs.now width height cursor }
 {
-    let inside = on_screen(width, height, cursor);
-    if !inside {
-        return cursor;
-    }
-    if attrs.len() != line_start(width, Line(height)) {
+    if !on_screen(width, height, cursor) || attrs.len() != line_start(width, Line(height)) {
         return cursor;
     }
     open_after(suppressed, attrs, width, height, cursor)

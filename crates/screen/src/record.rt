@@ -3,15 +3,15 @@
 
 // A field: its first cell, and how many cells it has. Both are 0 in a record behind the last field.
 #[repr(C)]
-#[derive(Clone, Copy)]
+#[derive(Clone, Copy, Debug, Default, PartialEq, Eq)]
 pub struct FieldRecord {
     pub start: u32,
     pub length: u32,
 }
 
 // The unprotected field that a cell is in: its number among the unprotected fields, from 1, and its record.
-#[derive(Clone, Copy)]
-pub enum Found {
-    In(usize, FieldRecord),
-    InNone,
+#[derive(Clone, Copy, Debug, PartialEq, Eq)]
+pub struct Found {
+    pub number: usize,
+    pub field: FieldRecord,
 }

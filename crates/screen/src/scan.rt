@@ -6,11 +6,10 @@ ghost use Rattle.screen.specs.Scans.{is_target};
 
 use crate::attribute::is_guarded;
 use crate::block::{behind, past};
-use crate::number::least;
 use crate::start::{opens_at, starts_at};
 
 // What a scan looks for.
-#[derive(Clone, Copy)]
+#[derive(Clone, Copy, Debug, PartialEq, Eq)]
 pub enum Target {
     FieldStart,
     UnprotectedStart,
@@ -25,10 +24,7 @@ fn is_target(attrs: &[u8], target: Target, cell: usize) -> bool
     match target {
         Target::FieldStart => starts_at(attrs, cell),
         Target::UnprotectedStart => opens_at(attrs, cell),
-        Target::Open(suppressed) => {
-            let guarded = is_guarded(suppressed, attrs, cell);
-            !guarded
-        }
+        Target::Open(suppressed) => !is_guarded(suppressed, attrs, cell),
     }
 }
 
@@ -38,13 +34,10 @@ fn first_by_blocks(attrs: &[u8], target: Target, from: usize, end: usize, none: 
     requires { (0 < from) × (from ≤ end) × (end ≤ length attrs.now) }
     ensures { result ≡ first_of (is_target attrs.now target) none from (end - from) }
 {
-    let mut cell = past(attrs, target, from, end);
-    while cell < end {
-        let found = is_target(attrs, target, cell);
-        if found {
+    for cell in past(attrs, target, from, end)..end {
+        if is_target(attrs, target, cell) {
             return cell;
         }
-        cell += 1;
     }
     none
 }
@@ -58,8 +51,7 @@ fn first_up_to(attrs: &[u8], target: Target, from: usize, end: usize, none: usiz
     if end <= from {
         return none;
     }
-    let found = is_target(attrs, target, from);
-    if found {
+    if is_target(attrs, target, from) {
         return from;
     }
     first_by_blocks(attrs, target, from + 1, end, none)
@@ -81,7 +73,7 @@ pub fn first_around(attrs: &[u8], target: Target, from: usize, none: usize) -> u
     if next < attrs.len() {
         return next;
     }
-    first_up_to(attrs, target, 0, least(from, attrs.len()), none)
+    first_up_to(attrs, target, 0, from.min(attrs.len()), none)
 }
 
 // The last such cell before `before`; none, `none`.
@@ -89,11 +81,9 @@ pub fn first_around(attrs: &[u8], target: Target, from: usize, none: usize) -> u
 pub fn last(attrs: &[u8], target: Target, before: usize, none: usize) -> usize
     ensures { result ≡ last_before (is_target attrs.now target) attrs.now before none }
 {
-    let mut cell = behind(attrs, target, least(before, attrs.len()));
-    while 0 < cell {
-        cell -= 1;
-        let found = is_target(attrs, target, cell);
-        if found {
+    let end = behind(attrs, target, before.min(attrs.len()));
+    for cell in (0..end).rev() {
+        if is_target(attrs, target, cell) {
             return cell;
         }
     }

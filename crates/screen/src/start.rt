@@ -9,12 +9,7 @@ use crate::attribute::{attribute_at, is_protected};
 pub fn starts_at(attrs: &[u8], cell: usize) -> bool
     ensures { result ≡ starts_at attrs.now cell }
 {
-    if cell == 0 {
-        return true;
-    }
-    let before = attribute_at(attrs, cell - 1);
-    let here = attribute_at(attrs, cell);
-    before != here
+    cell == 0 || attribute_at(attrs, cell - 1) != attribute_at(attrs, cell)
 }
 
 // Does an unprotected field start at the cell?
@@ -22,10 +17,5 @@ pub fn starts_at(attrs: &[u8], cell: usize) -> bool
 pub fn opens_at(attrs: &[u8], cell: usize) -> bool
     ensures { result ≡ opens_at attrs.now cell }
 {
-    let starts = starts_at(attrs, cell);
-    if !starts {
-        return false;
-    }
-    let protected = is_protected(attrs, cell);
-    !protected
+    starts_at(attrs, cell) && !is_protected(attrs, cell)
 }

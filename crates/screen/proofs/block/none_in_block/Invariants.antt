@@ -1,9 +1,6 @@
-use Rattle.screen.proofs.Kit.{◌≡◌, true, ◌-◌, ◌≤◌}
+use Rattle.screen.proofs.Kit.{◌≡◌, true}
 use Rattle.screen.proofs.SkipLaws.{AllPassed}
 use Rattle.screen.proofs.block.none_in_block.Given as goal
 
 abbrev pub invariant-loop-i : goal.invariant-loop-i
-invariant-loop-i l = (l.i ≤ 32) × (l.none ≡ true → AllPassed l.attrs l.protected l.alike l.cell l.i)
-
-abbrev pub decreases-loop-i : goal.decreases-loop-i
-decreases-loop-i l = 32 - l.i
+invariant-loop-i l = l.none ≡ true → AllPassed l.attrs l.protected l.alike l.cell l.i

@@ -6,6 +6,3 @@ use Rattle.screen.proofs.scan.last.Given as goal
 
 abbrev pub invariant-loop-cell : goal.invariant-loop-cell
 invariant-loop-cell l = last_before (is_target l.attrs l.target) l.attrs l.before l.none ≡ last_of (is_target l.attrs l.target) l.none l.cell
-
-abbrev pub decreases-loop-cell : goal.decreases-loop-cell
-decreases-loop-cell l = l.cell

@@ -1,17 +1,13 @@
 -- Laws of echoes: bytes by place; a signal by its style.
 use Rattle.std.specs.Prelude.{if◌then◌else◌}
-use Rattle.typing.proofs.Kit.{◌≡◌, refl, ◌∙◌, [], ◌∷◌, ℕ, zero, suc, ◌*◌, ◌/◌, ◌%◌, ◌≤◌, ◌<◌, arith, eqb, length, get_or, replicate, length-replicate, true_or_false}
+use Rattle.typing.proofs.Kit.{◌≡◌, refl, ◌∙◌, [], ◌∷◌, ℕ, zero, suc, ◌*◌, ◌/◌, ◌%◌, ◌≤◌, ◌<◌, arith, eqb, length, get_or, true_or_false}
 use Rattle.pad.specs.declared.parameter.Values.{Values}
 use Rattle.typing.specs.declared.echo.Echo.{Echo}
 use Rattle.typing.specs.declared.echo.Echo.TheVariants.{Silence, Repeated, Rubouts, Struck}
 use Rattle.pad.specs.Parameters.{value_of}
-use Rattle.pad.proofs.LineLaws.{past_end}
 use Rattle.typing.specs.Echo.{editing_set, echoed, character_signal, line_signal, rubouts}
 
 -- ---- bytes by place
-
-pub repeated_past : (n b i : ℕ) → n ≤ i → 0 ≡ get_or (replicate n b) i 0
-repeated_past n b i h = past_end (replicate n b) i (rw (length-replicate n b) h)
 
 pub rubouts_length : (n : ℕ) → length (rubouts n) ≡ 3 * n
 unfolding rubouts

@@ -69,8 +69,8 @@ const EDITING_SET: u8 = 64;
 
 const WITH_DEL: u8 = 128;
 
-// Styles of parameter 19 besides a character of one's own: nothing, for a printing terminal, for a display. They are its values as
-// bytes: an enum would be matched from the byte, and then matched again.
+// Styles of parameter 19 besides a character of one's own: nothing, for a printing terminal, for a display.
+// Bytes and no enum: an enum would be matched from the byte, and then matched again.
 const NOTHING: u8 = 0;
 
 const PRINTING: u8 = 1;
@@ -135,18 +135,14 @@ fn signal(values: Values) -> u8
 fn character_signal(values: Values, count: u8) -> Echo
     ensures { result ≡ character_signal values count }
 {
-    let style = signal(values);
-    match style {
+    match signal(values) {
         NOTHING => Echo::Silence,
         PRINTING => Echo::Repeated {
             byte: STROKE,
             times: count,
         },
         DISPLAY => Echo::Rubouts(count),
-        _ => Echo::Repeated {
-            byte: style,
-            times: count,
-        },
+        byte => Echo::Repeated { byte, times: count },
     }
 }
 
@@ -155,8 +151,7 @@ fn character_signal(values: Values, count: u8) -> Echo
 fn line_signal(values: Values, count: u8) -> Echo
     ensures { result ≡ line_signal values count }
 {
-    let style = signal(values);
-    match style {
+    match signal(values) {
         NOTHING => Echo::Silence,
         DISPLAY => Echo::Rubouts(count),
         _ => Echo::Struck,
@@ -210,7 +205,6 @@ pub fn echo_length(echo: Echo, line: EditLine) -> usize
     }
 }
 
-#[tactic(auto, using(crate::proofs::EchoLaws::repeated_past))]
 fn repeated_at(byte: u8, times: u8, i: usize) -> u8
     ensures { result ≡ get_or (replicate times byte) i 0 }
 {

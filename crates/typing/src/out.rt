@@ -54,7 +54,7 @@ fn put_forwarded(lf: bool, line: EditLine, key: u8, out: &mut [u8]) -> usize
 
 // Writes what goes out from the buffer's start on, and returns how many bytes that are: 258 at the most. A buffer that is too
 // short takes what fits.
-#[tactic(auto, using(words::proofs::StoredLaws::emitted_none), unfolding(crate::specs::Keys::out_of, crate::specs::Keys::out_by))]
+#[tactic(auto, unfolding(crate::specs::Keys::out_of, crate::specs::Keys::out_by))]
 pub fn write_out(values: Values, line: EditLine, key: u8, out: &mut [u8]) -> usize
     ensures { Emitted out.old 0 (out_of values (text_of line) key) out.new result }
 {

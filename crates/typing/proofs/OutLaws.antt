@@ -39,6 +39,6 @@ module _ {lf : Bool} {text a : List ℕ} {i : ℕ} {b : List ℕ} {at : ℕ} (do
   sent_more h p = record { written = rw (add-one, take-suc text i 0, ← all_sent_last) (emitted_then done.written p) }
 
   -- all of them, and then one
-  pub sent_all : (t : List ℕ) (key : ℕ) {c : List ℕ} {at' : ℕ} → text ≡ t → length text ≤ i → Emitted b at (sent_as lf key) c at'
-      → Emitted a 0 (all_sent lf (t ++ (key ∷ []))) c at'
-  sent_all t key e h p = rw (← e, ← all_sent_last) (emitted_then (rw (take_all i text h) at done.written) p)
+  pub sent_all : (t : List ℕ) (key : ℕ) {c d : List ℕ} {at' : ℕ} → text ≡ t → length text ≤ i → Emitted b at (sent_as lf key) c at' → d ≡ c
+      → Emitted a 0 (all_sent lf (t ++ (key ∷ []))) d at'
+  sent_all t key e h p is = rw (← e, is, ← all_sent_last) (emitted_then (rw (take_all i text h) at done.written) p)

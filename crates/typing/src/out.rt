@@ -16,40 +16,51 @@ fn after_cr(lf: bool) -> u8
     if lf { LF } else { 0 }
 }
 
-// A byte, where the buffer has room for it.
-fn put(out: &mut [u8], at: usize, byte: u8) -> usize
-    requires { at ≤ 257 }
-    ensures { Emitted out.old at (byte ∷ []) out.new result }
-{
-    if at < out.len() {
-        out[at] = byte;
-    }
-    at + 1
+// A buffer, and where its next byte goes.
+#[derive(Drop)]
+struct Out<'a> {
+    bytes: &'a mut [u8],
+    at: usize,
 }
 
-// A character as it is sent.
-#[tactic(auto, unfolding(crate::specs::Keys::sent_as))]
-fn put_character(out: &mut [u8], at: usize, byte: u8, lf: bool) -> usize
-    requires { at ≤ 256 }
-    ensures { Emitted out.old at (sent_as lf byte) out.new result }
-{
-    let next = put(out, at, byte);
-    if byte != CR {
-        return next;
+impl Out<'_> {
+    // A byte, where the buffer has room for it.
+    fn put(&mut self, byte: u8)
+        requires { self.old.at ≤ 257 }
+        ensures stored { Emitted self.old.bytes.now self.old.at (byte ∷ []) self.new.bytes.now self.new.at }
+        ensures same { self.new.bytes.ghost_name ≡ self.old.bytes.ghost_name }
+    {
+        if self.at < self.bytes.len() {
+            self.bytes[self.at] = byte;
+        }
+        self.at += 1;
     }
-    put(out, next, after_cr(lf))
+
+    // A character as it is sent.
+    #[tactic(auto, unfolding(crate::specs::Keys::sent_as))]
+    fn put_character(&mut self, byte: u8, lf: bool)
+        requires { self.old.at ≤ 256 }
+        ensures stored { Emitted self.old.bytes.now self.old.at (sent_as lf byte) self.new.bytes.now self.new.at }
+        ensures same { self.new.bytes.ghost_name ≡ self.old.bytes.ghost_name }
+    {
+        self.put(byte);
+        if byte == CR {
+            self.put(after_cr(lf));
+        }
+    }
 }
 
 // The line's characters, then the key.
-fn put_forwarded(lf: bool, line: EditLine, key: u8, out: &mut [u8]) -> usize
-    ensures { Emitted out.old 0 (all_sent lf (text_of line ++ (key ∷ []))) out.new result }
+fn put_forwarded(lf: bool, line: EditLine, key: u8, bytes: &mut [u8]) -> usize
+    ensures { Emitted bytes.old 0 (all_sent lf (text_of line ++ (key ∷ []))) bytes.new result }
 {
+    let mut out = Out { bytes, at: 0 };
     let text = line.text();
-    let mut at = 0;
     for &byte in text {
-        at = put_character(out, at, byte, lf);
+        out.put_character(byte, lf);
     }
-    put_character(out, at, key, lf)
+    out.put_character(key, lf);
+    out.at
 }
 
 // Writes what goes out from the buffer's start on, and returns how many bytes that are: 258 at the most. A buffer that is too

@@ -16,7 +16,7 @@ fn after_cr(lf: bool) -> u8
     if lf { LF } else { 0 }
 }
 
-// A buffer, and where its next byte goes.
+// A buffer, and where its next byte goes. It stays the buffer that was lent (`same`).
 #[derive(Drop)]
 struct Out<'a> {
     bytes: &'a mut [u8],

@@ -2,7 +2,9 @@
 ghost use Rattle.std.specs.Prelude.{◌≡◌};
 ghost use Rattle.screen.specs.Attributes.{protection, attribute_at, protected_at, guarded_at};
 
-// 0 none, 1 protected, 2 alphabetic, 3 numeric.
+use crate::protection::Protection;
+
+// As a number: 0 none, 1 protected, 2 alphabetic, 3 numeric. `Protection::of` has it by name.
 pub fn protection(attr: u8) -> u8
     ensures { result ≡ protection attr }
 {
@@ -20,7 +22,7 @@ pub fn attribute_at(attrs: &[u8], cell: usize) -> u8
 pub fn is_protected(attrs: &[u8], cell: usize) -> bool
     ensures { result ≡ protected_at attrs.now cell }
 {
-    protection(attribute_at(attrs, cell)) == 1
+    Protection::of(attribute_at(attrs, cell)) == Protection::Protected
 }
 
 pub fn is_guarded(suppressed: bool, attrs: &[u8], cell: usize) -> bool

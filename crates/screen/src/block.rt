@@ -3,7 +3,7 @@
 ghost use Rattle.std.specs.Prelude.{◌≡◌, true, ◌&&◌, ◌||◌, ◌+◌, ◌≤◌, ◌<◌, length};
 ghost use Rattle.screen.specs.Inner.Skips.{NoneIn, passes_protected, passes_alike, passed};
 
-use crate::attribute::protection;
+use crate::protection::Protection;
 use crate::scan::Target;
 
 #[tactic(auto, unfolding(crate::specs::Inner::Skips::passes_protected))]
@@ -30,7 +30,8 @@ fn passes_alike(target: Target) -> bool
 fn is_passed(protected: bool, alike: bool, before: u8, here: u8) -> bool
     ensures { result ≡ passed protected alike before here }
 {
-    (protected & (protection(here) == 1)) | (alike & (before == here))
+    let shut = Protection::of(here) == Protection::Protected;
+    (protected & shut) | (alike & (before == here))
 }
 
 // Is none of the block's cells what is looked for?

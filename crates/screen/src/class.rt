@@ -2,9 +2,9 @@
 ghost use Rattle.std.specs.Prelude.{◌≡◌};
 ghost use Rattle.screen.specs.Classes.{class_of, takes};
 
-use crate::attribute::protection;
+use crate::protection::Protection;
 
-// One entry for each of the 256 bytes: 0 neither, 1 alphabetic, 2 numeric, 3 both.
+// One entry for each of the 256 bytes: 0 neither, 1 alphabetic, 2 numeric, 3 both. Two bits and no enum: each is asked for by itself.
 // (Document 01, code places: one table over all 256 values.)
 const CLASSES: [u8; 256] = [
     0, // 0
@@ -277,10 +277,9 @@ pub fn takes_typed(attr: u8, byte: u8) -> bool
     ensures { result ≡ takes attr byte }
 {
     let entry = class(byte);
-    let kind = protection(attr);
-    match kind {
-        2 => entry % 2 == 1,
-        3 => entry / 2 == 1,
-        _ => true,
+    match Protection::of(attr) {
+        Protection::Alphabetic => entry % 2 == 1,
+        Protection::Numeric => entry / 2 == 1,
+        Protection::Unprotected | Protection::Protected => true,
     }
 }

@@ -9,6 +9,7 @@ pub mod class;
 pub mod field;
 pub mod next_open;
 pub mod number;
+pub mod protection;
 pub mod record;
 pub mod scan;
 pub mod start;

@@ -1,4 +1,4 @@
-// Scans over the screen's cells in reading order.
+// Scans over the screen's cells in reading order. What is answered where there is none is the caller's, as in `first_of`.
 ghost use Rattle.std.specs.Prelude.{◌≡◌, ◌-◌, ◌≤◌, ◌<◌, length};
 ghost use Rattle.screen.specs.Words.{first_of};
 ghost use Rattle.screen.specs.Fields.{first_from, first_around, last_before};
@@ -8,7 +8,7 @@ use crate::attribute::is_guarded;
 use crate::block::{behind, past};
 use crate::start::{opens_at, starts_at};
 
-// What a scan looks for.
+// What a scan looks for. An enum and no closure: it also tells which cells a block is passed over by (`passed` in block.rt).
 #[derive(Clone, Copy, Debug, PartialEq, Eq)]
 pub enum Target {
     FieldStart,

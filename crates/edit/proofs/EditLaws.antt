@@ -1,12 +1,14 @@
 -- Laws of the edits: what each keeps, and what stands in each cell afterwards.
-use Rattle.std.specs.Prelude.{if◌then◌else◌}
+use Rattle.std.specs.Prelude.{if◌then◌else◌, ◌⊎◌}
+use Rattle.std.proofs.Common.{inl, inr}
 use mathlib.Core.Path.{◌≡◌, refl, sym, ◌∙◌}
 use mathlib.Core.Bool.{Bool, true, false, not, ◌&&◌}
 use mathlib.Core.List.{List, ◌++◌}
 use Prim.Native.Nat.{ℕ, ◌+◌, ◌-◌, ◌≤◌, ◌<◌, min}
 use native.Mathlib.Omega.{arith}
-use borrow.Author.Tests.{ltb-true, ltb-false, leb-true, leb-false, eqb-true, eqb-false, lt-ltb, le-ltb, le-leb, lt-leb}
+use borrow.Author.Tests.{ltb-true, ltb-false, leb-true, eqb-true, eqb-false, lt-ltb, le-ltb, lt-leb, eq-eqb, ne_eqb}
 use borrow.Rule.Slice.PartMut.{put_mid, Post-is}
+use Rattle.std.specs.List.{CopiedTo}
 use lib.Dec.{leb, ltb, eqb}
 use lib.ListN.{length, get_or, set, take, drop, replicate, length-set, length-drop, length-replicate, get_or-replicate, get_or-eq_default}
 use lib.Seq.{paste, length-take-le, get_or-take, get_or-drop, get_or-set_same, get_or-set_other}
@@ -15,9 +17,9 @@ use Rattle.screen.specs.Attributes.{protection, protected_at, guarded_at}
 use Rattle.edit.specs.declared.range.Shift.{Shift}
 use Rattle.edit.specs.declared.range.Shift.TheVariants.{Insertion, Deletion}
 use Rattle.edit.specs.Edits.{deleted, deleted_cell, inserted, inserted_cell, shifted, lies, on_part, erased, erased_cell, filled, filled_cell, text_of, can_copy, Copied}
-use Rattle.words.proofs.Laws.{either, true_or_false, and_left, and_right, and_false, get_d-within, tabulate_length, get_d_tabulate, tabulated}
+use Rattle.words.proofs.Laws.{either, true_or_false, less_or_not, and_left, and_right, and_false, get_d-within, tabulate_length, get_d_tabulate, tabulated}
 use Rattle.screen.proofs.FieldLaws.{open_within}
-use Rattle.edit.proofs.ListLaws.{in_range_lem, after_range, Replaces, replaced_length, replaced_before, replaced_inside, replaced_after}
+use Rattle.edit.proofs.ListLaws.{in_range_lem, before_range, after_range, Replaces, replaced_length, replaced_before, replaced_inside, replaced_after}
 
 -- ---- each edit keeps the length, and its cells are what the definition says, whatever is read beyond the end
 
@@ -94,13 +96,17 @@ erased_all chars attrs from end =
     ∙ true_or_false (in_range from end k) (λ e. rw e) (λ e. rw e (get_d-within chars k 0 32 h)))
 
 module _ (attrs : List ℕ) (from end i : ℕ) where
-  -- a cell of the range, by the attribute byte that is read
-  pub erasing : (x : ℕ) → from ≤ i → i < end → i < length attrs
-      → (if eqb (protection (get_or attrs i 0)) 1 then x else 32) ≡ (if in_range from end i && not (guarded_at false attrs i) then 32 else x)
-  unfolding protected_at
-  erasing x a b c =
-      rw (in_range_lem from end i a b, get_d-within attrs i 8 0 c)
-      (true_or_false (eqb (protection (get_or attrs i 0)) 1) (λ e. rw e) (λ e. rw e))
+  -- a cell of the range that is protected, and one that is not
+  module _ {r : ℕ} (e : r ≡ protection (get_or attrs i 0)) (a : from ≤ i) (b : i < end) (c : i < length attrs) (x : ℕ) where
+    flag : protected_at attrs i ≡ eqb r 1
+    unfolding protected_at
+    flag = rw (e, get_d-within attrs i 8 0 c)
+
+    pub kept_cell : r ≡ 1 → x ≡ (if in_range from end i && not (guarded_at false attrs i) then 32 else x)
+    kept_cell h = rw (in_range_lem from end i a b, flag, eq-eqb r 1 h)
+
+    pub space_cell : (r ≡ 1 → ⊥) → 32 ≡ (if in_range from end i && not (guarded_at false attrs i) then 32 else x)
+    space_cell h = rw (in_range_lem from end i a b, flag, ne_eqb r 1 h)
 
   -- a cell after the range, or without an attribute byte
   pub not_erased : min end (length attrs) ≤ i → (in_range from end i && not (guarded_at false attrs i)) ≡ false
@@ -134,6 +140,58 @@ module _ (from end : ℕ) (xs : List ℕ) (e : lies from end xs ≡ true) where
       (λ p. let h = ltb-true (from + j) end p in get_or-take (end - from) (drop from xs) j d (omega arith) ∙ get_or-drop from xs j d)
       (λ p. let h = ltb-false (from + j) end p in get_or-eq_default (text_of from end xs) d {n = j} (omega (arith, text_length)))
 
+-- ---- what the library's methods leave
+
+-- a part whose elements moved, with spaces where none came
+module _ (by : ℕ) (part moved : List ℕ) {s n : ℕ} (e : s ≡ min by (length part)) (m : n ≡ length part - s) (long : length moved ≡ length part) where
+  -- in front, after a move towards its end
+  pub inserted_all : {spaces : List ℕ} → spaces ≡ replicate (length (take s moved)) 32 → CopiedTo part moved 0 s n → spaces ++ drop s moved ≡ inserted by part
+  unfolding inserted
+  inserted_all {spaces} f c =
+      let front : spaces ≡ replicate s 32 = rw (length-take-le s moved (omega arith)) at f in
+      let fit : Replaces 0 s moved spaces = record { ordered = omega arith; within = omega arith; long = rw front (length-replicate s 32 ∙ omega arith) } in
+      tabulated (inserted_cell by part) (spaces ++ drop s moved) (length part) 32 (replaced_length fit ∙ long)
+      (λ k h. less_or_not k s
+      (λ a. replaced_inside fit k 32 (omega arith) a ∙ rw (front, get_or-replicate {A = ℕ} s (k - 0) 32 32 (omega arith), lt-ltb k by (omega arith)))
+      (λ a.
+      let q : 0 + (k - s) ≡ k - by = omega arith in
+      replaced_after fit k 32 a ∙ c k 32 a (omega arith) ∙ rw (q, le-ltb k by (omega arith))))
+
+  -- at its end, after a move towards its start
+  pub deleted_all : {spaces : List ℕ} {j : ℕ} → spaces ≡ replicate j 32 → j ≡ s → CopiedTo part moved s 0 n → put_mid n (length moved - n) moved spaces ≡ deleted by part
+  unfolding deleted
+  deleted_all {spaces} {j} f g c =
+      let back : length spaces ≡ s = rw f (length-replicate j 32 ∙ g) in
+      let fit : Replaces n (length moved) moved spaces = record { ordered = omega arith; within = omega arith; long = omega arith } in
+      rw (Post-is n (length moved) moved (omega arith))
+      (tabulated (deleted_cell by part) (take n moved ++ (spaces ++ drop (length moved) moved)) (length part) 32 (replaced_length fit ∙ long)
+      (λ k h. less_or_not k n
+      (λ a.
+      let q : s + (k - 0) ≡ k + by = omega arith in
+      replaced_before fit k 32 a ∙ c k 32 (omega arith) (omega arith) ∙ rw q)
+      (λ a. replaced_inside fit k 32 a (omega arith)
+      ∙ rw (f, get_or-replicate {A = ℕ} j (k - n) 32 32 (omega arith), get_or-eq_default part 32 {n = k + by} (omega arith)))))
+
+-- a range filled, and one that has no cell
+module _ (from end byte : ℕ) (bytes : List ℕ) {stop : ℕ} (e : stop ≡ min end (length bytes)) where
+  pub filled_part : {part : List ℕ} {n : ℕ} → from < stop → n ≡ stop - from → part ≡ replicate n byte → put_mid from (stop - from) bytes part ≡ filled from end byte bytes
+  unfolding filled
+  filled_part {part} {n} h m f =
+      let fit : Replaces from stop bytes part = record { ordered = omega arith; within = omega arith; long = rw f (length-replicate n byte ∙ m) } in
+      rw (Post-is from stop bytes (omega arith))
+      (tabulated (filled_cell from end byte bytes) (take from bytes ++ (part ++ drop stop bytes)) (length bytes) 0 (replaced_length fit)
+      (λ k q. less_or_not k from
+      (λ a. replaced_before fit k 0 a ∙ rw (before_range from end k a))
+      (λ a. less_or_not k stop
+      (λ b. replaced_inside fit k 0 a b ∙ rw (f, get_or-replicate {A = ℕ} n (k - from) byte 0 (omega arith), in_range_lem from end k a (omega arith)))
+      (λ b. replaced_after fit k 0 b ∙ rw (after_range from end k (omega arith))))))
+
+  pub filled_none : (from < stop → ⊥) → bytes ≡ filled from end byte bytes
+  unfolding filled
+  filled_none h =
+      tabulated (filled_cell from end byte bytes) bytes (length bytes) 0 refl
+      (λ k q. less_or_not k from (λ a. rw (before_range from end k a)) (λ a. rw (after_range from end k (omega arith))))
+
 -- ---- an edit of the part in a range
 
 module _ (from end : ℕ) (edit : List ℕ → List ℕ) (xs : List ℕ) where
@@ -141,6 +199,11 @@ module _ (from end : ℕ) (edit : List ℕ → List ℕ) (xs : List ℕ) where
   pub on_part-none : lies from end xs ≡ false → on_part from end edit xs ≡ xs
   unfolding on_part
   on_part-none e = rw e
+
+  -- by the tests of its ends
+  pub put_none : ((from ≤ end) × (length xs < end)) ⊎ (end < from) → xs ≡ on_part from end edit xs
+  put_none (inl p) = sym (on_part-none (and_false (leb from end) (leb end (length xs)) (lt-leb end (length xs) p.1)))
+  put_none (inr p) = sym (on_part-none (rw (lt-leb from end p)))
 
   -- a part that was lent, and comes back edited
   pub put_part : (ys : List ℕ) → lies from end xs ≡ true → ys ≡ edit (text_of from end xs) → put_mid from (end - from) xs ys ≡ on_part from end edit xs
@@ -205,23 +268,6 @@ module _ (from end by : ℕ) (xs : List ℕ) (e : lies from end xs ≡ true) (i 
       rw (p, le-ltb (i - from) by (omega arith), text_cell from end xs e (i - from - by) 32, k, lt-ltb (i - by) end (omega arith)))
 
 -- ---- a text in a reply
-
--- where there is room for c bytes, they fit from `at` on as long as `at` is not among the last c
-pub room_after : (at c room : ℕ) → c ≤ room → leb at (room - c) ≡ leb (at + c) room
-room_after at c room h =
-    true_or_false (leb (at + c) room)
-    (λ e. let k = leb-true (at + c) room e in rw e (le-leb at (room - c) (omega arith)))
-    (λ e. let k = leb-false (at + c) room e in rw e (lt-leb at (room - c) (omega arith)))
-
--- the bounds of a text that passed the test
-pub copy_bounds : {possible : Bool} → possible ≡ true → (len room from end at : ℕ)
-    → possible ≡ ((leb from end && leb end len) && leb (at + (end - from)) room) → (from ≤ end) × (end ≤ len) × (at + (end - from) ≤ room)
-copy_bounds t len room from end at e =
-    let l = and_left (leb from end && leb end len) (leb (at + (end - from)) room) (sym e ∙ t) in (
-      lies_ordered l from end len refl,
-      lies_end l from end len refl,
-      leb-true (at + (end - from)) room (and_right (leb from end && leb end len) (leb (at + (end - from)) room) (sym e ∙ t)),
-    )
 
 module _ {chars reply : List ℕ} {from end at : ℕ} where
   -- a text that cannot be copied leaves the reply as it was

@@ -1,4 +1,3 @@
-pub mod Kit
 pub mod ListLaws
 pub mod EditLaws
 pub mod MarkLaws

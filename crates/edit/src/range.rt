@@ -59,8 +59,9 @@ fn erase_unprotected(chars: &mut [u8], attrs: &[u8], from: usize, end: usize)
 {
     let stop = end.min(chars.len()).min(attrs.len());
     for i in from..stop {
+        let byte = chars[i];
         let protected = protection(attrs[i]) == 1;
-        chars[i] = if protected { chars[i] } else { 32 };
+        chars[i] = if protected { byte } else { 32 };
     }
 }
 

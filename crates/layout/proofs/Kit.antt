@@ -7,8 +7,10 @@ pub use native.Mathlib.Nat.{zero-add}
 pub use native.Mathlib.Numerals.{add-one}
 pub use native.Mathlib.Omega.{arith}
 pub use lib.Dec.{eqb, leb}
-pub use lib.ListN.{length, take, drop, replicate, length-take, length-set, length-replicate, drop_of_length-le}
-pub use lib.Seq.{sets, sets-eq, length-sets, get_or-take, get_or-drop, paste, paste-zero, paste-suc, take-length}
+pub use lib.ListN.{length, set, take, drop, replicate, length-set, length-append, length-drop, length-replicate, drop_of_length-le}
+pub use lib.Seq.{sets-eq, get_or-take, get_or-drop, length-take-le, take-length}
+pub use borrow.Rule.Slice.PartMut.{put_mid}
+pub use Rattle.std.proofs.lemmas.Slice.{put_mid-paste}
 pub use borrow.Author.Rules.{rules}
 pub use borrow.Author.Tests.{leb-true, eqb-true, eqb-false, le-leb, lt-leb, eq-eqb, ne_eqb, not-true, not-false}
 unfoldable pub use Rattle.words.specs.Words.{tabulate}

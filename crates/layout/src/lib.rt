@@ -5,7 +5,6 @@
 ghost use Rattle.std.specs.Prelude.{◌≡◌};
 ghost use Rattle.layout.specs.Layout.{is_session, decoded, stored};
 
-mod copy;
 mod number;
 mod read;
 mod valid;
@@ -14,7 +13,7 @@ mod write;
 use read::{session_in, session_in_short};
 use rules::Session;
 use valid::{has_flags, has_places};
-use write::{put_frame, put_pad, put_reader, put_rest};
+use write::put_session;
 
 pub const SESSION_LENGTH: usize = 212;
 
@@ -26,39 +25,29 @@ pub(crate) const VERSION: u8 = 4;
 pub fn is_session(bytes: &[u8]) -> bool
     ensures { result ≡ is_session bytes.now }
 {
-    if bytes.len() != SESSION_LENGTH {
+    let Some(bytes) = bytes.as_array() else {
         return false;
-    }
-    if bytes[0] != VERSION {
-        return false;
-    }
-    let flags = has_flags(bytes);
-    if !flags {
-        return false;
-    }
-    has_places(bytes)
+    };
+    bytes[0] == VERSION && has_flags(bytes) && has_places(bytes)
 }
 
 // The session of these bytes. Whether they are one is for `is_session` to say: this takes any, and reads 0 beyond their end.
+#[tactic(auto, using(crate::proofs::CopyLaws::front_same))]
 pub fn decode(bytes: &[u8]) -> Session
     ensures { result ≡ decoded bytes.now }
 {
-    if SESSION_LENGTH <= bytes.len() {
-        return session_in(bytes);
+    match bytes.first_chunk() {
+        Some(whole) => session_in(whole),
+        None => session_in_short(bytes),
     }
-    session_in_short(bytes)
 }
 
 // Writes the session's bytes over those that are there. A place of another length is left as it is.
-#[tactic(auto, using(crate::proofs::LayoutLaws::stored_elsewhere))]
+#[tactic(auto, using(crate::proofs::LayoutLaws::stored_there, crate::proofs::LayoutLaws::stored_elsewhere))]
 pub fn encode(session: Session, bytes: &mut [u8])
     ensures { bytes.new ≡ stored session bytes.old }
 {
-    if bytes.len() != SESSION_LENGTH {
-        return;
+    if let Some(place) = bytes.as_mut_array() {
+        put_session(session, place);
     }
-    put_frame(session.frame, bytes);
-    put_reader(session.reader, bytes);
-    put_pad(session.pad, bytes);
-    put_rest(session.frame, bytes);
 }

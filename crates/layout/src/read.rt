@@ -3,48 +3,27 @@ ghost use Rattle.std.specs.Prelude.{◌≡◌, ◌+◌, ◌≤◌, length};
 ghost use Rattle.layout.specs.Layout.{session_length, bytes_from, maps_in, frame_in, reader_in, pad_in, decoded};
 
 use crate::SESSION_LENGTH;
-use crate::copy::copy;
-use crate::number::{edition_numbered, phase_of, stage_of};
+use crate::number::{PhaseBytes, StageBytes, edition_numbered};
 use pad::line::EditLine;
 use pad::message::Message;
 use pad::parameter::Values;
 use rules::{Frame, Held, Maps, Pad, Reader, Session};
 use screen::cell::{Column, Line, Place};
 
-// The six held bytes.
-fn held_in(bytes: &[u8]) -> [u8; 6]
-    requires { session_length ≤ length bytes.now }
-    ensures { result ≡ bytes_from bytes.now 11 6 }
+// The N bytes from a place on.
+#[tactic(auto, using(crate::proofs::CopyLaws::part_read))]
+fn bytes_from<const N: usize>(bytes: &[u8; SESSION_LENGTH], from: usize) -> [u8; N]
+    requires { from + N ≤ session_length }
+    ensures { result ≡ bytes_from bytes.now from N }
 {
-    let mut held = [0; 6];
-    copy(&bytes[11..17], &mut held, 0);
-    held
-}
-
-// The 28 values from a place on.
-fn values_in(bytes: &[u8], from: usize) -> [u8; 28]
-    requires { from + 28 ≤ length bytes.now }
-    ensures { result ≡ bytes_from bytes.now from 28 }
-{
-    let mut values = [0; 28];
-    copy(&bytes[from..from + 28], &mut values, 0);
-    values
-}
-
-// The edit line's bytes.
-fn line_in(bytes: &[u8]) -> [u8; EditLine::CAPACITY]
-    requires { session_length ≤ length bytes.now }
-    ensures { result ≡ bytes_from bytes.now 47 128 }
-{
-    let mut line = [0; EditLine::CAPACITY];
-    copy(&bytes[47..175], &mut line, 0);
-    line
+    let mut part = [0; N];
+    part.copy_from_slice(&bytes[from..from + N]);
+    part
 }
 
 // The facility maps received.
 #[tactic(auto, unfolding(crate::specs::Layout::maps_in))]
-fn maps_in(bytes: &[u8]) -> Maps
-    requires { session_length ≤ length bytes.now }
+fn maps_in(bytes: &[u8; SESSION_LENGTH]) -> Maps
     ensures { result ≡ maps_in bytes.now }
 {
     Maps {
@@ -57,8 +36,7 @@ fn maps_in(bytes: &[u8]) -> Maps
 }
 
 #[tactic(auto, unfolding(crate::specs::Layout::frame_in))]
-fn frame_in(bytes: &[u8]) -> Frame
-    requires { session_length ≤ length bytes.now }
+fn frame_in(bytes: &[u8; SESSION_LENGTH]) -> Frame
     ensures { result ≡ frame_in bytes.now }
 {
     Frame {
@@ -77,14 +55,17 @@ fn frame_in(bytes: &[u8]) -> Frame
 }
 
 #[tactic(auto, unfolding(crate::specs::Layout::reader_in))]
-fn reader_in(bytes: &[u8]) -> Reader
-    requires { session_length ≤ length bytes.now }
+fn reader_in(bytes: &[u8; SESSION_LENGTH]) -> Reader
     ensures { result ≡ reader_in bytes.now }
 {
+    let place = PhaseBytes {
+        number: bytes[8],
+        option: bytes[9],
+    };
     Reader {
-        phase: phase_of(bytes[8], bytes[9]),
+        phase: place.into(),
         held: Held {
-            bytes: held_in(bytes),
+            bytes: bytes_from(bytes, 11),
             count: bytes[10],
         },
         cr: bytes[17] == 1,
@@ -92,31 +73,33 @@ fn reader_in(bytes: &[u8]) -> Reader
 }
 
 #[tactic(auto, unfolding(crate::specs::Layout::pad_in))]
-fn pad_in(bytes: &[u8]) -> Pad
-    requires { session_length ≤ length bytes.now }
+fn pad_in(bytes: &[u8; SESSION_LENGTH]) -> Pad
     ensures { result ≡ pad_in bytes.now }
 {
+    let next = StageBytes {
+        number: bytes[175],
+        code: bytes[176],
+        parameter: bytes[177],
+    };
     Pad {
         values: Values {
-            held: values_in(bytes, 18),
+            held: bytes_from(bytes, 18),
         },
         line: EditLine {
-            bytes: line_in(bytes),
+            bytes: bytes_from(bytes, 47),
             len: bytes[46],
         },
         message: Message {
-            stage: stage_of(bytes[175], bytes[176], bytes[177]),
+            stage: next.into(),
             copy: Values {
-                held: values_in(bytes, 178),
+                held: bytes_from(bytes, 178),
             },
         },
     }
 }
 
-// The session of bytes that are long enough for one.
 #[tactic(auto, unfolding(crate::specs::Layout::decoded))]
-pub(crate) fn session_in(bytes: &[u8]) -> Session
-    requires { session_length ≤ length bytes.now }
+pub(crate) fn session_in(bytes: &[u8; SESSION_LENGTH]) -> Session
     ensures { result ≡ decoded bytes.now }
 {
     Session {
@@ -126,12 +109,13 @@ pub(crate) fn session_in(bytes: &[u8]) -> Session
     }
 }
 
-// The session of bytes that may be too short for one: zeros stand for what is missing.
+// The session of bytes that may be too few for one: zeros stand for what is missing.
+#[tactic(auto, using(crate::proofs::CopyLaws::short_same))]
 pub(crate) fn session_in_short(bytes: &[u8]) -> Session
     requires { length bytes.now ≤ session_length }
     ensures { result ≡ decoded bytes.now }
 {
     let mut whole = [0; SESSION_LENGTH];
-    copy(bytes, &mut whole, 0);
+    whole[..bytes.len()].copy_from_slice(bytes);
     session_in(&whole)
 }

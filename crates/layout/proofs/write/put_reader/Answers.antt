@@ -1,11 +1,8 @@
-use Rattle.layout.proofs.Kit.{◌≡◌, refl, ◌∷◌, length, rules, Emitted, emitted_then}
+use Rattle.layout.proofs.Kit.{refl, length-set, arith}
+use Rattle.layout.proofs.CopyLaws.{emitted_first, emitted_copy, emitted_last}
 use Rattle.layout.proofs.write.put_reader.Goals as goal
 
 pub returns : goal.returns
 returns c =
-    let a = c.args in
-    let place = c.phase_bytes-place.result in
-    let long : length a.reader.held.bytes ≡ 6 = search rules in
-    let front : Emitted a.bytes.now 8 (place.number ∷ place.option ∷ a.reader.held.count ∷ a.reader.held.bytes) c.copy.new.whole 17 =
-    record { next = rw long; stored = c.copy.ensures } in
-    rw (← c.phase_bytes-place.ensures) (emitted_then front (record { next = refl; stored = refl }))
+    rw (← c.from-place.ensures)
+    (emitted_first refl (emitted_first refl (emitted_first refl (emitted_last _ (emitted_copy {k = 6} c.copy_from_slice.ensures.after (omega arith) (simp length-set (omega arith)) refl) refl))))

@@ -1,6 +1,6 @@
 -- Laws of unused records, and of the list written anew.
 use mathlib.Core.Path.{◌≡◌, refl, ap, ◌∙◌}
-use mathlib.Core.Bool.{Bool, true, false, ◌&&◌}
+use mathlib.Core.Bool.{Bool, true, ◌&&◌}
 use mathlib.Core.List.{List, ◌∷◌, ◌++◌, append_assoc, append-nil}
 use Prim.Native.Nat.{ℕ, zero, suc, ◌+◌, ◌-◌, ◌≤◌, ◌<◌, min}
 use native.Mathlib.Omega.{arith}
@@ -11,6 +11,7 @@ use lib.Bits.{bit_or, or_zero_l, or_add_and, and_le_r}
 use lib.Dec.{eqb, ltb}
 use lib.ListN.{length, length-drop, replicate, get_or, set, take, drop, drop_of_length-le, length-set}
 use lib.Seq.{drop-cons, take_all, take-suc-set}
+use Rattle.std.proofs.Math.Bool.{and_assoc}
 use Rattle.std.proofs.lemmas.List.{drop_min, length-take}
 use Rattle.words.proofs.Laws.{true_or_false, and_true}
 use Rattle.screen.specs.Fields.{field_end}
@@ -29,10 +30,6 @@ or_none a b =
     true_or_false (eqb a 0)
     (λ p. rw (p, eqb-true a 0 p, or_zero_l b))
     (λ p. rw p (ne_eqb (bit_or a b) 0 (λ z. eqb-false a 0 p (omega (arith, or_add_and a b, and_le_r a b, z)))))
-
-and_assoc : (a b c : Bool) → (a && b) && c ≡ (a && (b && c))
-and_assoc true b c = refl
-and_assoc false b c = refl
 
 joined_none : (said : FieldRecord) → eqb (joined said) 0 ≡ is_unused said
 joined_none said =

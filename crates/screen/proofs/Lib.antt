@@ -1,4 +1,3 @@
-pub mod Kit
 pub mod WordLaws
 pub mod CellLaws
 pub mod FieldLaws

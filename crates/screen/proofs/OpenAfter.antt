@@ -1,5 +1,5 @@
 -- The scan for the next open cell, by lines and positions. The invariant of both loops: the answer is the first open cell from x,y on.
-use Rattle.screen.proofs.Kit.{◌≡◌, sym, ◌∙◌, Bool, not, List, ℕ, ◌+◌, ◌*◌, ◌≤◌, ◌<◌, add-zero, mul-le-mul_right, arith, length}
+use Rattle.std.proofs.Common.{◌≡◌, sym, Bool, not, List, ℕ, ◌+◌, ◌*◌, ◌≤◌, ◌<◌, mul-le-mul_right, arith, length}
 use Rattle.screen.specs.Cells.{cell_of, place_of}
 use Rattle.screen.specs.Attributes.{guarded_at}
 use Rattle.screen.specs.Fields.{first_from}
@@ -32,11 +32,6 @@ module _ {suppressed : Bool} {attrs : List ℕ} {width height : ℕ} {p : Place}
   }
 
   module _ {x y : ℕ} (s : Seeking suppressed attrs width height p x y) where
-    pub turns : width ≤ x → Seeking suppressed attrs width height p 0 (y + 1)
-    turns h =
-        let e : x ≡ width = omega arith in
-        record { size = s.size; start = s.start; column = omega arith; answer = s.answer ∙ rw (e, next_line, add-zero) }
-
     pub ends : height ≤ y → p ≡ place_of width (next_open suppressed attrs (cell_of width p))
     ends h =
         let over : length attrs ≤ y * width + x = omega (arith, mul-le-mul_right width h) in

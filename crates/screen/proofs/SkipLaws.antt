@@ -1,11 +1,13 @@
 -- Laws of scans that go past many cells at once.
 use mathlib.Core.Path.{◌≡◌, refl, ◌∙◌}
-use mathlib.Core.Bool.{Bool, true, false, not, ◌||◌}
+use mathlib.Core.Bool.{Bool, true, false, not}
 use mathlib.Core.List.{List}
 use Prim.Native.Nat.{ℕ, ◌+◌, ◌-◌, ◌≤◌, ◌<◌}
 use native.Mathlib.Omega.{arith}
 use lib.Dec.{eqb}
 use lib.ListN.{length, get_or}
+use Rattle.std.proofs.Common.{inl, inr}
+use Rattle.std.proofs.lemmas.Bool.{or_cases}
 use Rattle.screen.specs.Words.{first_of, last_of}
 use Rattle.screen.specs.Attributes.{protection, protected_at}
 use Rattle.screen.specs.Fields.{starts_at, opens_at}
@@ -16,11 +18,6 @@ use Rattle.screen.specs.declared.scan.Target.TheVariants.{FieldStart, Unprotecte
 use Rattle.words.proofs.Laws.{less_or_not, not_both, and_false, get_d-within}
 use Rattle.screen.proofs.WordLaws.{first_skips, last_skips}
 use Rattle.screen.proofs.FieldLaws.{starts_after}
-
--- a choice between two that holds
-or_cases {ℓ} : {A : Type ℓ} (a b : Bool) → (a || b) ≡ true → (a ≡ true → A) → (b ≡ true → A) → A
-or_cases true b e f g = f refl
-or_cases false b e f g = g e
 
 module _ (attrs : List ℕ) (i : ℕ) (some : 0 < i) (within : i < length attrs) where
   -- the two attribute bytes, as they are read
@@ -37,12 +34,13 @@ module _ (attrs : List ℕ) (i : ℕ) (some : 0 < i) (within : i < length attrs)
   unfolding is_target opens_at passes_protected passes_alike
   passed_over FieldStart e = alike e
   passed_over UnprotectedStart e =
-      or_cases (eqb (protection (get_or attrs i 0)) 1) (eqb (get_or attrs (i - 1) 0) (get_or attrs i 0)) e
-      (λ p. and_false (starts_at attrs i) (not (protected_at attrs i)) (rw (shut p)))
-      (λ p. rw (alike p))
+      elim (or_cases (eqb (protection (get_or attrs i 0)) 1) (eqb (get_or attrs (i - 1) 0) (get_or attrs i 0)) e) [
+        | inl p ↦ and_false (starts_at attrs i) (not (protected_at attrs i)) (rw (shut p))
+        | inr p ↦ rw (alike p)
+      ]
   passed_over (Open true) e = not_both false e refl
   passed_over (Open false) e =
-      or_cases (eqb (protection (get_or attrs i 0)) 1) false e (λ p. rw (shut p)) (λ p. not_both false p refl)
+      elim (or_cases (eqb (protection (get_or attrs i 0)) 1) false e) [ inl p ↦ rw (shut p) | inr p ↦ not_both false p refl ]
 
 -- n cells from `cell` on that are passed
 pub record AllPassed (attrs : List ℕ) (protected alike : Bool) (cell n : ℕ) : Type 0 where

@@ -1,4 +1,4 @@
-use Rattle.screen.proofs.Kit.{◌≤◌, length}
+use Rattle.std.proofs.Common.{◌≤◌, length}
 use Rattle.screen.specs.Inner.Skips.{NoneIn}
 use Rattle.screen.proofs.block.behind.Given as goal
 

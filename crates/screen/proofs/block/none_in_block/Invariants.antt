@@ -1,4 +1,4 @@
-use Rattle.screen.proofs.Kit.{◌≡◌, true}
+use Rattle.std.proofs.Common.{◌≡◌, true}
 use Rattle.screen.proofs.SkipLaws.{AllPassed}
 use Rattle.screen.proofs.block.none_in_block.Given as goal
 

@@ -1,4 +1,4 @@
-use Rattle.screen.proofs.Kit.{◌≡◌, ◌-◌, length}
+use Rattle.std.proofs.Common.{◌≡◌, ◌-◌, length}
 use Rattle.screen.specs.Attributes.{guarded_at}
 use Rattle.screen.specs.Fields.{first_from}
 use Rattle.screen.proofs.field.some_guarded.Given as goal

@@ -1,4 +1,4 @@
-use Rattle.screen.proofs.Kit.{◌≡◌}
+use Rattle.std.proofs.Common.{◌≡◌}
 use Rattle.screen.proofs.OpenAfter.{Seeking}
 use Rattle.screen.proofs.next_open.open_after.Given as goal
 

@@ -1,4 +1,4 @@
-use Rattle.screen.proofs.Kit.{◌≡◌, ◌-◌}
+use Rattle.std.proofs.Common.{◌≡◌, ◌-◌}
 use Rattle.screen.specs.Words.{first_of}
 use Rattle.screen.specs.Scans.{is_target}
 use Rattle.screen.proofs.scan.first_by_blocks.Given as goal

@@ -1,4 +1,4 @@
-use Rattle.screen.proofs.Kit.{◌≡◌}
+use Rattle.std.proofs.Common.{◌≡◌}
 use Rattle.screen.specs.Words.{last_of}
 use Rattle.screen.specs.Fields.{last_before}
 use Rattle.screen.specs.Scans.{is_target}

@@ -8,7 +8,6 @@ pub mod cell;
 pub mod class;
 pub mod field;
 pub mod next_open;
-pub mod number;
 pub mod protection;
 pub mod record;
 pub mod scan;

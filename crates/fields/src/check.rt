@@ -9,6 +9,7 @@ use crate::starts::count_starts;
 use screen::record::FieldRecord;
 
 // Both numbers of a record in one, as they lie side by side in memory: the compiler then reads them at once.
+// (`start | length` in its place: `agrees` takes 1.2 times the instructions.)
 fn joined(said: FieldRecord) -> usize
     ensures { result ≡ joined said }
 {

@@ -49,8 +49,8 @@ module _ (bytes : List ℕ) where
 -- ---- what it writes
 
 -- a byte stored, and more behind it
-pub emitted_first : {buf bytes buf₁ : List ℕ} {at next end x : ℕ} → next ≡ suc at → Emitted (set buf at x) next bytes buf₁ end → Emitted buf at (x ∷ bytes) buf₁ end
-emitted_first e p = record { next = omega (arith, p.next); stored = p.stored ∙ rw e }
+pub emitted_first : {buf bytes buf₁ : List ℕ} {at end x : ℕ} → Emitted (set buf at x) (suc at) bytes buf₁ end → Emitted buf at (x ∷ bytes) buf₁ end
+emitted_first p = record { next = omega (arith, p.next); stored = p.stored }
 
 -- bytes that were copied whole
 pub emitted_copy : {buf bytes part : List ℕ} {at k end : ℕ} → part ≡ bytes → length bytes ≡ k → at + k ≤ length buf → end ≡ at + k

@@ -100,7 +100,7 @@ impl From<StageBytes> for Stage {
     }
 }
 
-// An edition and a number belong to other crates, so that no `From` between them can stand here.
+// A function, and no `From`: an impl of another crate's trait has to name a type of this crate, and neither of these is one.
 #[tactic(auto, unfolding(crate::specs::Layout::edition_number))]
 pub(crate) fn edition_number(edition: Edition) -> u8
     ensures { result ≡ edition_number edition }

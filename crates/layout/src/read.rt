@@ -1,4 +1,5 @@
-// The parts of a session, read from its bytes.
+// The parts of a session, read from its bytes. The places stand as numbers here and in write.rt, as in the table at the head of
+// specs/Layout.antt and in the definitions there: names for them would be one more list to compare with it.
 ghost use Rattle.std.specs.Prelude.{◌≡◌, ◌+◌, ◌≤◌, length};
 ghost use Rattle.layout.specs.Layout.{session_length, bytes_from, maps_in, frame_in, reader_in, pad_in, decoded};
 

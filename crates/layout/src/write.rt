@@ -23,7 +23,6 @@ fn put_frame(frame: Frame, bytes: &mut [u8; SESSION_LENGTH])
     bytes[7] = frame.suppressed as u8;
 }
 
-#[tactic(auto, using(crate::proofs::CopyLaws::emitted_first, crate::proofs::CopyLaws::emitted_copy, crate::proofs::CopyLaws::emitted_last))]
 fn put_reader(reader: Reader, bytes: &mut [u8; SESSION_LENGTH])
     ensures { Emitted bytes.old 8 (reader_bytes reader) bytes.new 18 }
 {
@@ -36,7 +35,6 @@ fn put_reader(reader: Reader, bytes: &mut [u8; SESSION_LENGTH])
 }
 
 // The edit line: its length, then its bytes.
-#[tactic(auto, using(crate::proofs::CopyLaws::emitted_first, crate::proofs::CopyLaws::emitted_copy))]
 fn put_line(line: EditLine, bytes: &mut [u8; SESSION_LENGTH])
     ensures { Emitted bytes.old 46 (line_bytes line) bytes.new 175 }
 {
@@ -45,7 +43,6 @@ fn put_line(line: EditLine, bytes: &mut [u8; SESSION_LENGTH])
 }
 
 // A message as far as it is read, and its copy of the values.
-#[tactic(auto, using(crate::proofs::CopyLaws::emitted_first, crate::proofs::CopyLaws::emitted_copy))]
 fn put_message(message: Message, bytes: &mut [u8; SESSION_LENGTH])
     ensures { Emitted bytes.old 175 (message_bytes message) bytes.new 206 }
 {
@@ -56,7 +53,6 @@ fn put_message(message: Message, bytes: &mut [u8; SESSION_LENGTH])
     bytes[178..206].copy_from_slice(&message.copy.held);
 }
 
-#[tactic(auto, using(words::proofs::StoredLaws::emitted_then, crate::proofs::CopyLaws::emitted_copy))]
 fn put_pad(pad: Pad, bytes: &mut [u8; SESSION_LENGTH])
     ensures { Emitted bytes.old 18 (pad_bytes pad) bytes.new 206 }
 {
@@ -78,7 +74,6 @@ fn put_rest(frame: Frame, bytes: &mut [u8; SESSION_LENGTH])
     bytes[211] = edition_number(frame.edition);
 }
 
-#[tactic(auto, using(crate::proofs::CopyLaws::session_put))]
 pub(crate) fn put_session(session: Session, bytes: &mut [u8; SESSION_LENGTH])
     ensures { bytes.new ≡ encoded session }
 {

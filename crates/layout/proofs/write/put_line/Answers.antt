@@ -3,4 +3,4 @@ use Rattle.layout.proofs.CopyLaws.{emitted_first, emitted_copy}
 use Rattle.layout.proofs.write.put_line.Goals as goal
 
 pub returns : goal.returns
-returns c = emitted_first refl (emitted_copy {k = 128} c.copy_from_slice.ensures.after (omega arith) (simp length-set (omega arith)) refl)
+returns c = emitted_first (emitted_copy {k = 128} c.copy_from_slice.ensures.after (omega arith) (simp length-set (omega arith)) refl)

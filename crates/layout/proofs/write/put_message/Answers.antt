@@ -5,4 +5,4 @@ use Rattle.layout.proofs.write.put_message.Goals as goal
 pub returns : goal.returns
 returns c =
     rw (← c.from-next.ensures)
-    (emitted_first refl (emitted_first refl (emitted_first refl (emitted_copy {k = 28} c.copy_from_slice.ensures.after (omega arith) (simp length-set (omega arith)) refl))))
+    (emitted_first (emitted_first (emitted_first (emitted_copy {k = 28} c.copy_from_slice.ensures.after (omega arith) (simp length-set (omega arith)) refl))))

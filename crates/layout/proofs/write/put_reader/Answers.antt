@@ -5,4 +5,4 @@ use Rattle.layout.proofs.write.put_reader.Goals as goal
 pub returns : goal.returns
 returns c =
     rw (← c.from-place.ensures)
-    (emitted_first refl (emitted_first refl (emitted_first refl (emitted_last _ (emitted_copy {k = 6} c.copy_from_slice.ensures.after (omega arith) (simp length-set (omega arith)) refl) refl))))
+    (emitted_first (emitted_first (emitted_first (emitted_last _ (emitted_copy {k = 6} c.copy_from_slice.ensures.after (omega arith) (simp length-set (omega arith)) refl) refl))))

@@ -1,26 +1,27 @@
 -- Laws of the counts, and of counting on.
+use Rattle.std.specs.Prelude.{Option, Some}
 use mathlib.Core.Path.{◌≡◌, refl}
+use mathlib.Core.Bool.{Bool, true, false}
 use mathlib.Core.List.{List, [], ◌∷◌, ◌++◌, map}
 use Prim.Native.Nat.{ℕ, ◌+◌, ◌-◌, ◌≤◌, ◌<◌}
 use native.Mathlib.Nat.{add-zero, zero-add, add_assoc}
 use native.Mathlib.Numerals.{one-add}
 use native.Mathlib.Omega.{arith}
-use lib.ListN.{length, get_or, drop_of_length-le}
+use lib.ListN.{length, drop, get_or, drop_of_length-le}
 use Rattle.telnet.specs.declared.Phase.{Phase}
-use Rattle.telnet.specs.declared.Phase.TheVariants.{Rest, Inside}
+use Rattle.telnet.specs.declared.Phase.TheVariants.{Rest, Iac, Negotiating, Opening, OpeningIac, Inside, InsideIac}
 use Rattle.telnet.specs.declared.Event.{Event}
 use Rattle.telnet.specs.declared.Event.TheVariants.{Nothing, Data, Negotiation, Begin, Sub, End, EndBare, Lost}
 use Rattle.telnet.specs.declared.stretch.Stretch.{Stretch}
 use Rattle.telnet.specs.Reader.{read_of}
 use Rattle.telnet.specs.Stream.{as_list, events_of, part, stretch_of}
 use Rattle.telnet.proofs.Laws.{Reads}
-use Rattle.telnet.specs.declared.ahead.Ahead.TheVariants.{WholeSub}
+use Rattle.telnet.specs.declared.ahead.WholeSub.{WholeSub}
 use Rattle.telnet.proofs.AheadLaws.{Stands, whole_read}
-use Rattle.telnet.proofs.StretchLaws.{Onward, Lies, byte_onward, stretch_length, stretch_lies, data_stretch, payload_stretch, onward}
+use Rattle.telnet.proofs.StretchLaws.{Onward, Lies, bytes, byte_onward, stretch_length, stretch_lies, data_stretch, payload_stretch, onward}
 use Rattle.tally.specs.declared.Tally.{Tally}
-use Rattle.tally.specs.declared.Progress.{Progress}
 use Rattle.tally.specs.Counts.{counts, none, tallied, plus, tally_of}
-use Rattle.tally.specs.Inner.Counting.{total, Counting, Further}
+use Rattle.tally.specs.Inner.Counting.{total, in_stretch, stretched}
 
 -- ---- tallies add up as numbers do
 plus_assoc : (r s t : Tally) → plus (plus r s) t ≡ plus r (plus s t)
@@ -67,74 +68,102 @@ sub_tally : (o : ℕ) (bs : List ℕ) → tally_of (Begin o ∷ (map (Sub o) bs 
 unfolding tally_of tallied plus
 sub_tally o bs = rw (none_plus, tally_append, payload_tally o bs) (simp (add-zero, zero-add))
 
+total_plus : (s t : Tally) → total (plus s t) ≡ total s + total t
+unfolding plus
+total_plus s t = omega arith
+
+total_stretched : (p : Phase) (n : ℕ) → total (stretched p n) ≡ n
+total_stretched (Inside o) n = omega arith
+total_stretched Rest n = omega arith
+total_stretched Iac n = omega arith
+total_stretched (Negotiating v) n = omega arith
+total_stretched Opening n = omega arith
+total_stretched OpeningIac n = omega arith
+total_stretched (InsideIac o) n = omega arith
+
 -- ---- counting on
-module _ {input : List ℕ} {p : Progress} (c : Counting input p) where
-  -- What is left tells these events first: with them it is counted further.
-  pub further : {q : Progress} {here : Phase} {es : List Event} → p.phase ≡ here → Onward input here p.at es q.phase q.at
-      → plus p.tally (tally_of es) ≡ q.tally → (total q.tally ≤ q.at) × (p.at < q.at) → Further input p q
-  further h o t b = record {
-    counting = record { whole = rw (← t, plus_assoc, ← tally_append, ← o.events, ← h) c.whole; few = b.0 };
-    further = b.1;
+
+-- The counts so far and those of what is left are those of the whole, and they fit.
+pub record Counting (input : List ℕ) (phase : Phase) (at : ℕ) (tally : Tally) : Type 0 where
+  pub whole : plus tally (tally_of (events_of phase (drop at input))) ≡ tally_of (events_of Rest input)
+  pub few : total tally ≤ at
+
+-- nothing is counted yet
+pub start_counted : (input : List ℕ) (t : Tally) → t.data_bytes ≡ 0 → t.negotiations ≡ 0 → t.payload ≡ 0 → t.ended ≡ 0 → Counting input Rest 0 t
+unfolding plus
+start_counted input t d n p e = record { whole = rw (d, n, p, e) (simp zero-add); few = omega arith }
+
+-- what a stretch tells, and what that adds
+record Tells (input : List ℕ) (at : ℕ) (p : Phase) : Type 0 where
+  told : List Event
+  reads : Reads p (part at (stretch_of p input at).next input) told (stretch_of p input at).phase
+  adds : tally_of told ≡ stretched p ((stretch_of p input at).end - at)
+
+module _ (input : List ℕ) (at : ℕ) where
+  none_told : {p : Phase} → false ≡ true → Tells input at p
+  none_told e = let z : ◌≡◌ {A = ℕ} 0 1 = cc in absurd (omega arith)
+
+  stretch_tells : (p : Phase) → in_stretch p ≡ true → Tells input at p
+  stretch_tells Rest e = record {
+    told = map Data (bytes input at Rest);
+    reads = data_stretch input at;
+    adds = rw (data_tally (bytes input at Rest), stretch_length input at Rest);
+  }
+  stretch_tells (Inside o) e = record {
+    told = map (Sub o) (bytes input at (Inside o));
+    reads = payload_stretch input at o;
+    adds = rw (payload_tally o (bytes input at (Inside o)), stretch_length input at (Inside o));
+  }
+  stretch_tells Iac e = none_told e
+  stretch_tells (Negotiating v) e = none_told e
+  stretch_tells Opening e = none_told e
+  stretch_tells OpeningIac e = none_told e
+  stretch_tells (InsideIac o) e = none_told e
+
+module _ {input : List ℕ} {phase : Phase} {at : ℕ} {tally : Tally} (c : Counting input phase at tally) where
+  -- What is left tells these events first: they are counted too.
+  further : {q : Phase} {next : ℕ} {es : List Event} → Onward input phase at es q next → total (tally_of es) ≤ next - at → at ≤ next
+      → Counting input q next (plus tally (tally_of es))
+  further o few h = record {
+    whole = rw (plus_assoc, ← tally_append, ← o.events) c.whole;
+    few = rw total_plus (omega (arith, c.few));
   }
 
   -- one byte
-  pub byte_further : p.at < length input → let step = read_of p.phase (get_or input p.at 0) in
-      Further input p (record { phase = step.phase; at = p.at + 1; tally = plus p.tally (tallied step.event) })
-  unfolding plus
-  byte_further h =
-      let adds = event_tally (read_of p.phase (get_or input p.at 0)).event in
-      further refl (byte_onward input p.phase p.at h) (rw adds.0) (omega (arith, c.few))
+  pub byte_counted : at < length input → let step = read_of phase (get_or input at 0) in
+      Counting input step.phase (at + 1) (plus tally (tallied step.event))
+  byte_counted h =
+      let adds = event_tally (read_of phase (get_or input at 0)).event in
+      rw adds.0 at (further (byte_onward input phase at h) (rw adds.0 (omega (arith, adds.1))) (omega arith))
 
-  -- a stretch of a reader that stands here, which adds its length to one count
-  module _ (h : p.at < length input) (here : Phase) (q : p.phase ≡ here) {s : Stretch} (e : s ≡ stretch_of here input p.at) where
-    pub stretch_lies_here : Lies input p.at s
-    stretch_lies_here = rw e (stretch_lies input p.at here h)
-
-    -- its bytes
-    abbrev bytes : List ℕ
-    bytes = part p.at s.end input
-
-    long : length bytes ≡ s.end - p.at
-    long = rw e (stretch_length input p.at here)
-
-    counted_through : (es : List Event) (t : Tally) → Reads here (part p.at s.next input) es s.phase
-        → plus p.tally (tally_of es) ≡ t → total t ≤ s.next → Further input p (record { phase = s.phase; at = s.next; tally = t })
-    counted_through es t r adds few =
-        let l = stretch_lies_here in further q (onward input p.at (omega (arith, l.further)) r) adds (few, l.further)
-
-    abbrev more_data : Tally
-    more_data = let t = p.tally in counts (t.data_bytes + (s.end - p.at)) t.negotiations t.payload t.ended
-
-    pub data_further : here ≡ Rest → Further input p (record { phase = s.phase; at = s.next; tally = more_data })
-    unfolding plus
-    data_further k =
-        let l = stretch_lies_here in
-        counted_through (map Data bytes) more_data (rw (e, k) (data_stretch input p.at)) (rw (data_tally, long) (simp add-zero))
-        (omega (arith, l.onward, l.forth, c.few))
-
-    abbrev more_payload : Tally
-    more_payload = let t = p.tally in counts t.data_bytes t.negotiations (t.payload + (s.end - p.at)) t.ended
-
-    pub payload_further : (o : ℕ) → here ≡ Inside o → Further input p (record { phase = s.phase; at = s.next; tally = more_payload })
-    unfolding plus
-    payload_further o k =
-        let l = stretch_lies_here in
-        counted_through (map (Sub o) bytes) more_payload (rw (e, k) (payload_stretch input p.at o))
-        (rw (payload_tally o, long) (simp add-zero)) (omega (arith, l.onward, l.forth, c.few))
+  -- a stretch
+  pub stretch_counted : at < length input → in_stretch phase ≡ true → {s : Stretch} → s ≡ stretch_of phase input at
+      → Counting input s.phase s.next (plus tally (stretched phase (s.end - at)))
+  stretch_counted h inside {s} e =
+      let t = stretch_tells input at phase inside in
+      let l = stretch_lies input at phase h in
+      let fit : total (tally_of t.told) ≤ (stretch_of phase input at).next - at = rw (t.adds, total_stretched) (omega (arith, l.onward, l.forth)) in
+      rw (e, ← t.adds) (further (onward input at (omega (arith, l.further)) t.reads) fit (omega (arith, l.further)))
 
   -- a whole subnegotiation, which adds its length to one count and itself to another
-  module _ {o start end next : ℕ} (w : Stands input p.phase p.at (WholeSub o start end next)) where
+  module _ {w : WholeSub} (s : Stands input phase at (Some w)) where
     abbrev one_more_sub : Tally
-    one_more_sub = let t = p.tally in counts t.data_bytes t.negotiations (t.payload + (end - start)) (t.ended + 1)
+    one_more_sub = counts tally.data_bytes tally.negotiations (tally.payload + (w.end - w.start)) (tally.ended + 1)
 
-    pub sub_further : Further input p (record { phase = Rest; at = next; tally = one_more_sub })
+    pub sub_counted : Counting input Rest w.next one_more_sub
     unfolding plus
-    sub_further =
-        let k = w.1 in
-        further w.0 (onward input p.at (omega (arith, k.after, k.forth, k.on)) (whole_read k))
-        (rw (sub_tally, k.long) (simp add-zero)) (omega (arith, k.after, k.forth, k.on, c.few))
+    sub_counted =
+        let k = s.1 in
+        let told = Begin w.option ∷ (map (Sub w.option) (part w.start w.end input) ++ (End w.option ∷ [])) in
+        let adds : tally_of told ≡ counts 0 0 (w.end - w.start) 1 = rw (sub_tally, k.long) in
+        let forth : at ≤ w.next = omega (arith, k.after, k.forth, k.on) in
+        let fit : total (tally_of told) ≤ w.next - at = rw adds (omega (arith, k.after, k.forth, k.on)) in
+        let sum : plus tally (tally_of told) ≡ one_more_sub = rw adds (simp add-zero) in
+        rw (← sum) (further (rw s.0 (onward input at forth (whole_read k))) fit forth)
 
-  -- at the end all is counted
-  pub counting_done : length input ≤ p.at → p.tally ≡ tally_of (events_of Rest input)
-  unfolding tally_of events_of
-  counting_done h = rw plus_none at (rw (drop_of_length-le input h) at c.whole)
+-- at the end all is counted
+pub counting_done : (input : List ℕ) (phase : Phase) (at : ℕ) (tally : Tally) →
+    plus tally (tally_of (events_of phase (drop at input))) ≡ tally_of (events_of Rest input) → length input ≤ at →
+    tally ≡ tally_of (events_of Rest input)
+unfolding tally_of events_of
+counting_done input phase at tally w h = rw plus_none at (rw (drop_of_length-le input h) at w)

@@ -2,18 +2,18 @@
 // Stretches of data and of payload are taken at once, and so are whole subnegotiations; the reader is asked about the other bytes.
 #![tactic(auto)]
 
-ghost use Rattle.std.specs.Prelude.{◌≡◌, ◌+◌, ◌≤◌, ◌<◌, ◌^◌, length};
-ghost use Rattle.telnet.specs.declared.Phase.TheVariants.{Rest, Inside};
+ghost use Rattle.std.specs.Prelude.{◌≡◌, true, ◌+◌, ◌≤◌, ◌<◌, ◌^◌, length, drop};
+ghost use Rattle.telnet.specs.declared.Phase.TheVariants.{Rest};
 ghost use Rattle.telnet.specs.Stream.{events_of};
 ghost use Rattle.tally.specs.Counts.{tallied, plus, tally_of};
-ghost use Rattle.tally.specs.Inner.Counting.{total, Counting, Further};
+ghost use Rattle.tally.specs.Inner.Counting.{total, in_stretch, stretched};
 
-use telnet::ahead::{Ahead, look_ahead};
-use telnet::stretch::{data_at, payload_at};
+use telnet::ahead::look_ahead;
+use telnet::stretch::stretch_at;
 use telnet::{Event, Phase, read};
 
 // How many events of each kind.
-#[derive(Clone, Copy)]
+#[derive(Clone, Copy, Debug, Default, PartialEq, Eq)]
 pub struct Tally {
     pub data_bytes: usize,
     pub negotiations: usize,
@@ -21,160 +21,126 @@ pub struct Tally {
     pub ended: usize,
 }
 
-// A stream read up to `at`: where the reader stands, and the counts so far.
+impl Tally {
+    // One event more.
+    #[tactic(auto, unfolding(crate::specs::Counts::tallied, crate::specs::Counts::plus))]
+    fn counted(mut self, event: Event) -> Self
+        requires { total self + 1 < 2 ^ 64 }
+        ensures { result ≡ plus self (tallied event) }
+    {
+        match event {
+            Event::Data(_) => self.data_bytes += 1,
+            Event::Negotiation { .. } => self.negotiations += 1,
+            Event::Sub { .. } => self.payload += 1,
+            Event::End(_) | Event::EndBare => self.ended += 1,
+            Event::Nothing | Event::Begin(_) | Event::Lost => {}
+        }
+        self
+    }
+
+    // A stretch of so many bytes more.
+    #[tactic(auto, unfolding(crate::specs::Counts::plus))]
+    fn stretched(mut self, phase: Phase, bytes: usize) -> Self
+        requires { total self + bytes < 2 ^ 64 }
+        ensures { result ≡ plus self (stretched phase bytes) }
+    {
+        match phase {
+            Phase::Inside(_) => self.payload += bytes,
+            _ => self.data_bytes += bytes,
+        }
+        self
+    }
+}
+
+// A stream read up to `at`: where the reader stands, and the counts so far. Those and the counts of what is left are those of the
+// whole, and they fit, since no more is counted than bytes are read.
 #[derive(Clone, Copy)]
-struct Progress {
+struct Progress<'a> {
+    input: &'a [u8],
     phase: Phase,
     at: usize,
     tally: Tally,
+    ghost whole: { plus tally (tally_of (events_of phase (drop at input.now))) ≡ tally_of (events_of Rest input.now) },
+    ghost few: { total tally ≤ at },
 }
 
-// One event more.
-#[tactic(auto, unfolding(crate::specs::Counts::tallied, crate::specs::Counts::plus))]
-fn counted(tally: Tally, event: Event) -> Tally
-    requires { total tally + 1 < 2 ^ 64 }
-    ensures { result ≡ plus tally (tallied event) }
-{
-    let mut next = tally;
-    match event {
-        Event::Nothing => {}
-        Event::Data(_) => next.data_bytes += 1,
-        Event::Negotiation { verb: _, option: _ } => next.negotiations += 1,
-        Event::Begin(_) => {}
-        Event::Sub { option: _, byte: _ } => next.payload += 1,
-        Event::End(_) => next.ended += 1,
-        Event::EndBare => next.ended += 1,
-        Event::Lost => {}
-    }
-    next
-}
-
-// One byte, by the reader.
-#[tactic(auto, using(crate::proofs::Laws::byte_further))]
-fn one(progress: Progress, input: &[u8]) -> Progress
-    requires { Counting input.now progress × (progress.at < length input.now) }
-    ensures { Further input.now progress result }
-{
-    let phase = progress.phase;
-    let at = progress.at;
-    let step = read(phase, input[at]);
-    let event = step.event;
-    let next = step.phase;
-    let tally = counted(progress.tally, event);
-    Progress {
-        phase: next,
-        at: at + 1,
-        tally: tally,
-    }
-}
-
-// At rest: the data up to the next IAC, and that IAC.
-#[tactic(auto, using(crate::proofs::Laws::stretch_lies_here, crate::proofs::Laws::data_further))]
-fn data_stretch(progress: Progress, input: &[u8]) -> Progress
-    requires at_rest { progress.phase ≡ Rest }
-    requires counting { Counting input.now progress × (progress.at < length input.now) }
-    ensures { Further input.now progress result }
-{
-    let at = progress.at;
-    let stretch = data_at(input, at);
-    let mut tally = progress.tally;
-    tally.data_bytes += stretch.end - at;
-    let phase = stretch.phase;
-    Progress {
-        phase: phase,
-        at: stretch.next,
-        tally: tally,
-    }
-}
-
-// In the subnegotiation of this option: its payload up to the next IAC, and that IAC.
-#[tactic(auto, using(crate::proofs::Laws::stretch_lies_here, crate::proofs::Laws::payload_further))]
-fn payload_stretch(option: u8, progress: Progress, input: &[u8]) -> Progress
-    requires inside { progress.phase ≡ Inside option }
-    requires counting { Counting input.now progress × (progress.at < length input.now) }
-    ensures { Further input.now progress result }
-{
-    let at = progress.at;
-    let stretch = payload_at(option, input, at);
-    let mut tally = progress.tally;
-    tally.payload += stretch.end - at;
-    let phase = stretch.phase;
-    Progress {
-        phase: phase,
-        at: stretch.next,
-        tally: tally,
-    }
-}
-
-// A whole subnegotiation, where one is ahead.
-#[tactic(auto, using(telnet::proofs::AheadLaws::ahead_stands, crate::proofs::Laws::sub_further))]
-fn sub_ahead(progress: Progress, input: &[u8]) -> Progress
-    requires { Counting input.now progress }
-    ensures { Counting input.now result × (progress.at ≤ result.at) }
-{
-    let phase = progress.phase;
-    let ahead = look_ahead(phase, input, progress.at);
-    match ahead {
-        Ahead::WholeSub {
-            option: _,
-            start,
-            end,
-            next,
-        } => {
-            let mut tally = progress.tally;
-            tally.payload += end - start;
-            tally.ended += 1;
-            Progress {
-                phase: Phase::Rest,
-                at: next,
-                tally: tally,
-            }
+impl<'a> Progress<'a> {
+    // Nothing is read.
+    fn start(input: &'a [u8]) -> Self
+        ensures { result.input.now ≡ input.now }
+    {
+        Progress {
+            input,
+            phase: Phase::Rest,
+            at: 0,
+            tally: Tally::default(),
         }
-        Ahead::Other => progress,
     }
-}
 
-// At rest: the data up to the next IAC, that IAC, and the subnegotiation after it if it is whole.
-fn from_rest(progress: Progress, input: &[u8]) -> Progress
-    requires at_rest { progress.phase ≡ Rest }
-    requires counting { Counting input.now progress × (progress.at < length input.now) }
-    ensures { Further input.now progress result }
-{
-    let after = data_stretch(progress, input);
-    sub_ahead(after, input)
-}
+    // One byte, by the reader.
+    fn byte(&mut self)
+        requires { self.old.at < length self.old.input.now }
+        ensures same { self.new.input.now ≡ self.old.input.now }
+        ensures further { self.old.at < self.new.at }
+    {
+        let step = read(self.phase, self.input[self.at]);
+        self.tally = self.tally.counted(step.event);
+        self.phase = step.phase;
+        self.at += 1;
+    }
 
-// A stretch where the reader stands in one, else a byte: the phase is looked at once for either.
-fn turn(progress: Progress, input: &[u8]) -> Progress
-    requires { Counting input.now progress × (progress.at < length input.now) }
-    ensures { Further input.now progress result }
-{
-    let phase = progress.phase;
-    match phase {
-        Phase::Rest => from_rest(progress, input),
-        Phase::Inside(option) => payload_stretch(option, progress, input),
-        _ => one(progress, input),
+    // In a stretch: its bytes up to the next IAC, and that IAC.
+    fn stretch(&mut self)
+        requires inside { in_stretch self.old.phase ≡ true }
+        requires more { self.old.at < length self.old.input.now }
+        ensures same { self.new.input.now ≡ self.old.input.now }
+        ensures further { self.old.at < self.new.at }
+    {
+        let stretch = stretch_at(self.phase, self.input, self.at);
+        self.tally = self.tally.stretched(self.phase, stretch.end - self.at);
+        self.phase = stretch.phase;
+        self.at = stretch.next;
+    }
+
+    // A whole subnegotiation, where one is ahead.
+    fn whole_sub(&mut self)
+        ensures same { self.new.input.now ≡ self.old.input.now }
+        ensures forth { self.old.at ≤ self.new.at }
+    {
+        let Some(whole) = look_ahead(self.phase, self.input, self.at) else {
+            return;
+        };
+        self.tally.payload += whole.end - whole.start;
+        self.tally.ended += 1;
+        self.phase = Phase::Rest;
+        self.at = whole.next;
+    }
+
+    // A stretch where the reader stands in one, and the subnegotiation after it if that is whole; else a byte.
+    fn turn(&mut self)
+        requires { self.old.at < length self.old.input.now }
+        ensures same { self.new.input.now ≡ self.old.input.now }
+        ensures further { self.old.at < self.new.at }
+    {
+        match self.phase {
+            Phase::Rest => {
+                self.stretch();
+                self.whole_sub();
+            }
+            Phase::Inside(_) => self.stretch(),
+            _ => self.byte(),
+        }
     }
 }
 
 // The counts of a whole stream.
-#[tactic(auto, using(crate::proofs::Laws::none_plus, crate::proofs::Laws::counting_done))]
+#[tactic(auto, using(crate::proofs::Laws::counting_done))]
 pub fn tally_of(input: &[u8]) -> Tally
     ensures { result ≡ tally_of (events_of Rest input.now) }
 {
-    let none = Tally {
-        data_bytes: 0,
-        negotiations: 0,
-        payload: 0,
-        ended: 0,
-    };
-    let mut progress = Progress {
-        phase: Phase::Rest,
-        at: 0,
-        tally: none,
-    };
+    let mut progress = Progress::start(input);
     while progress.at < input.len() {
-        progress = turn(progress, input);
+        progress.turn();
     }
     progress.tally
 }

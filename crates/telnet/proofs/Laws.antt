@@ -3,7 +3,7 @@ use Rattle.std.specs.Prelude.{if◌then◌else◌}
 use Prim.Native.Nat.{ℕ, suc, ◌+◌, ◌≤◌, ◌<◌}
 use native.Mathlib.Numerals.{add-one}
 use native.Mathlib.Omega.{arith}
-use mathlib.Core.Path.{◌≡◌, refl, ◌∙◌}
+use mathlib.Core.Path.{◌≡◌, refl, sym, ◌∙◌}
 use mathlib.Core.Bool.{Bool, true, false}
 use mathlib.Core.List.{List, [], ◌∷◌, ◌++◌, map, append_assoc, append-nil}
 use lib.Dec.{eqb}
@@ -13,13 +13,28 @@ use borrow.Author.Tests.{eqb-true, ne_eqb}
 use Rattle.telnet.specs.declared.Verb.{Verb}
 use Rattle.telnet.specs.declared.Verb.TheVariants.{Will, Wont, Do, Dont}
 use Rattle.telnet.specs.declared.Phase.{Phase}
-use Rattle.telnet.specs.declared.Phase.TheVariants.{Rest, Iac, Opening, OpeningIac, Inside, InsideIac}
+use Rattle.telnet.specs.declared.Phase.TheVariants.{Rest, Iac, Negotiating, Opening, OpeningIac, Inside, InsideIac}
 use Rattle.telnet.specs.declared.Event.{Event}
 use Rattle.telnet.specs.declared.Event.TheVariants.{Nothing, Data, Negotiation, Begin, Sub, End, EndBare, Lost}
 use Rattle.telnet.specs.declared.Step.{Step}
-use Rattle.telnet.specs.Reader.{iac, sb, se, tells, silent, after_iac, thrown_away, read_of, reader}
+use Rattle.telnet.specs.Reader.{iac, sb, se, verb_code, tells, silent, after_iac, thrown_away, read_of, reader}
 use Rattle.telnet.specs.Stream.{phase_after, as_list, events_of}
 use Rattle.telnet.specs.Writer.{doubled, subnegotiation, negotiation}
+
+-- A verb is no other command, and waits for its option byte.
+pub verb_waits : (v : Verb) {b : ℕ} → verb_code v ≡ b → after_iac b ≡ silent (Negotiating v)
+unfolding after_iac
+verb_waits Will e = rw (← e)
+verb_waits Wont e = rw (← e)
+verb_waits Do e = rw (← e)
+verb_waits Dont e = rw (← e)
+
+-- A byte that is neither IAC, nor SB, nor a verb does nothing.
+pub no_verb_rests : {b : ℕ} → (b ≡ iac → ⊥) → (b ≡ sb → ⊥) → ((v : Verb) → verb_code v ≡ b → ⊥) → after_iac b ≡ silent Rest
+unfolding after_iac
+no_verb_rests {b} i s n =
+    let other : (v : Verb) → eqb b (verb_code v) ≡ false = λ v. ne_eqb b (verb_code v) (λ e. n v (sym e)) in
+    simp (ne_eqb b iac i, ne_eqb b sb s, other Will, other Wont, other Do, other Dont)
 
 -- Where the reader stands after two lists, one after the other.
 pub phase_append : (p : Phase) (xs ys : List ℕ) → phase_after p (xs ++ ys) ≡ phase_after (phase_after p xs) ys

@@ -1,16 +1,14 @@
 -- Laws of stretches: what the bytes up to the next IAC tell, read one after the other.
-use Rattle.std.specs.Prelude.{if◌then◌else◌}
-use Prim.Native.Nat.{ℕ, zero, suc, ◌+◌, ◌-◌, ◌≤◌, ◌<◌}
-use native.Mathlib.Nat.{add-zero, add-suc, suc-add}
-use native.Mathlib.Numerals.{add-one}
+use Prim.Native.Nat.{ℕ, ◌+◌, ◌-◌, ◌≤◌, ◌<◌}
+use native.Mathlib.Nat.{add-zero}
 use native.Mathlib.Omega.{arith}
 use mathlib.Core.Path.{◌≡◌, refl, sym, ap, ◌∙◌}
-use mathlib.Core.Bool.{Bool, true, false, not, ◌&&◌}
+use mathlib.Core.Bool.{Bool, true, false}
 use mathlib.Core.List.{List, [], ◌∷◌, ◌++◌, map, append-nil}
-use lib.Dec.{eqb, ltb}
-use lib.ListN.{length, take, drop, get_or, length-drop, drop_of_length-le}
-use lib.Seq.{drop-cons, get_or-drop, length-take-le}
-use borrow.Author.Tests.{not-true, eqb-true, eqb-false, eq-eqb, ne_eqb, ltb-true, ltb-false, lt-ltb, le-ltb}
+use lib.Dec.{ltb}
+use lib.ListN.{length, drop, get_or, length-drop, drop_of_length-le}
+use lib.Seq.{get_or-drop, length-take-le}
+use borrow.Author.Tests.{ltb-true, ltb-false, lt-ltb, le-ltb}
 use Rattle.telnet.specs.declared.Phase.{Phase}
 use Rattle.telnet.specs.declared.Phase.TheVariants.{Rest, Iac, Inside, InsideIac}
 use Rattle.telnet.specs.declared.Event.{Event}
@@ -20,56 +18,13 @@ use Rattle.telnet.specs.Reader.{iac, silent, read_of, reader}
 use Rattle.telnet.specs.Stream.{phase_after, as_list, events_of, before_iac, data_end, part, stretch_of}
 use Rattle.telnet.proofs.Laws.{Reads, No255, phase_append, events_append, events_at, phase_at_lem, joined, one}
 use Rattle.telnet.proofs.Laws.{plain_read, plain_payload_read}
+use Rattle.telnet.proofs.BeforeLaws.{before}
 use Rattle.telnet.proofs.PartLaws.{part_one, part_then, part_rest}
 
--- For a loop over a slice: at i stands IAC, or another byte, or i is past the end.
-module _ (s : List ℕ) (i : ℕ) where
-  module _ (within : i < length s) where
-    pub end_hit : get_or s i 0 ≡ iac → data_end s i ≡ i
-    unfolding data_end before_iac
-    end_hit e = rw (drop-cons s i 0) (simp (eq-eqb _ _ e, add-zero))
-
-    pub end_skip : (get_or s i 0 ≡ iac → ⊥) → data_end s i ≡ data_end s (i + 1)
-    unfolding data_end before_iac
-    end_skip n = rw (drop-cons s i 0) (simp (ne_eqb _ _ n, add-one, add-suc, suc-add))
-
-  pub end_past : length s ≤ i → data_end s i ≡ i
-  unfolding data_end before_iac
-  end_past h = rw (drop_of_length-le s h, add-zero)
-
--- the byte after some is not IAC
-pub end_next : (s : List ℕ) (from i : ℕ) → from + i < length s → (get_or s (from + i) 0 ≡ iac → ⊥)
-    → data_end s (from + i) ≡ data_end s (from + (i + 1))
-end_next s from i w n = let a : from + (i + 1) ≡ from + i + 1 = omega arith in rw a (end_skip s (from + i) w n)
-
--- all eight are behind
-pub end_eight : (s : List ℕ) (at : ℕ) {n : ℕ} → data_end s at ≡ data_end s (at + n) → n ≡ 8 → data_end s at ≡ data_end s (at + 8)
-end_eight s at e q = rw q at e
-
--- none of the bytes so far is IAC, and this one is not
-pub end_more : (s : List ℕ) (from i : ℕ) (all : Bool) → (all ≡ true → data_end s from ≡ data_end s (from + i)) → from + i < length s
-    → (all && not (eqb (get_or s (from + i) 0) iac)) ≡ true → data_end s from ≡ data_end s (from + (i + 1))
-end_more s from i true h w e = h refl ∙ end_next s from i w (eqb-false _ _ (not-true _ e))
-end_more s from i false h w e = let z : ◌≡◌ {A = ℕ} 0 1 = cc in absurd (omega arith)
-
--- n bytes stand before the first IAC: none of them is IAC, and IAC is next, if any byte is.
-record Before (bs : List ℕ) (n : ℕ) : Type 0 where
-  within : n ≤ length bs
-  plain : No255 (take n bs)
-  next : n < length bs → get_or bs n 0 ≡ iac
-
-before : (bs : List ℕ) → Before bs (before_iac bs)
-unfolding before_iac
-before [] = record { within = omega arith; plain = λ k h. absurd (omega arith); next = λ h. absurd (omega arith) }
-before (b ∷ bs) = go (eqb b iac) refl (before bs)
-  where
-    go : (t : Bool) → eqb b iac ≡ t → Before bs (before_iac bs) → Before (b ∷ bs) (if t then 0 else suc (before_iac bs))
-    go true e r = record { within = omega arith; plain = λ k h. absurd (omega arith); next = λ h. eqb-true b iac e }
-    go false e r = record { within = omega (arith, r.within); plain = plain; next = λ h. r.next (omega arith) }
-      where
-        plain : No255 (b ∷ take (before_iac bs) bs)
-        plain zero h = eqb-false b iac e
-        plain (suc k) h = r.plain k (omega arith)
+-- past the end there is none
+pub end_past : (s : List ℕ) (i : ℕ) → length s ≤ i → data_end s i ≡ i
+unfolding data_end before_iac
+end_past s i h = rw (drop_of_length-le s h, add-zero)
 
 -- Read from the phase p, the bytes from i on tell these events, and then what those from j on tell from q.
 pub record Onward (s : List ℕ) (p : Phase) (i : ℕ) (es : List Event) (q : Phase) (j : ℕ) : Type 0 where

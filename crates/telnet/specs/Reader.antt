@@ -1,7 +1,8 @@
 -- Document 01, "Telnet bytes": what one byte does to the reader. Behind it stand RFC 854 and RFC 855.
-use Rattle.std.specs.Prelude.{ℕ, eqb, if◌then◌else◌}
+use Rattle.std.specs.Prelude.{◌≡◌, ℕ, Result, MatchResult, eqb, if◌then◌else◌}
 use Rattle.telnet.specs.declared.Verb.{Verb}
 use Rattle.telnet.specs.declared.Verb.TheVariants.{Will, Wont, Do, Dont}
+use Rattle.telnet.specs.declared.NoVerb.{NoVerb}
 use Rattle.telnet.specs.declared.Phase.{Phase}
 use Rattle.telnet.specs.declared.Phase.TheVariants.{Rest, Iac, Negotiating, Opening, OpeningIac, Inside, InsideIac}
 use Rattle.telnet.specs.declared.Event.{Event}
@@ -23,6 +24,10 @@ verb_code Will = 251
 verb_code Wont = 252
 verb_code Do = 253
 verb_code Dont = 254
+
+-- the verb that a byte is, or the byte itself, where it is none
+abbrev pub ReadsVerb : ℕ → Result Verb NoVerb → Type 0
+ReadsVerb b r = MatchResult r (λ v. verb_code v ≡ b) (λ e. (e.0 ≡ b) × ((v : Verb) → verb_code v ≡ b → ⊥))
 
 -- the reader goes on in this phase, and the byte tells this
 abbrev pub tells : Phase → Event → Step

@@ -1,12 +1,11 @@
 -- A list of bytes, read one after the other.
-use Rattle.std.specs.Prelude.{ℕ, suc, ◌+◌, ◌-◌, Bool, not, ◌&&◌, List, [], ◌∷◌, ◌++◌, eqb, ltb, length, take, drop, get_or, if◌then◌else◌}
+use Rattle.std.specs.Prelude.{ℕ, suc, ◌+◌, ◌-◌, Bool, not, ◌&&◌, List, [], ◌∷◌, ◌++◌, eqb, ltb, length, take, drop, get_or, Option, None, Some, if◌then◌else◌}
 use Rattle.telnet.specs.declared.Phase.{Phase}
-use Rattle.telnet.specs.declared.Phase.TheVariants.{Rest, Iac, Negotiating, Opening, OpeningIac, Inside, InsideIac}
+use Rattle.telnet.specs.declared.Phase.TheVariants.{Iac}
 use Rattle.telnet.specs.declared.Event.{Event}
 use Rattle.telnet.specs.declared.Event.TheVariants.{Nothing, Data, Negotiation, Begin, Sub, End, EndBare, Lost}
 use Rattle.telnet.specs.declared.stretch.Stretch.{Stretch}
-use Rattle.telnet.specs.declared.ahead.Ahead.{Ahead}
-use Rattle.telnet.specs.declared.ahead.Ahead.TheVariants.{WholeSub, Other}
+use Rattle.telnet.specs.declared.ahead.WholeSub.{WholeSub}
 use Rattle.telnet.specs.Reader.{iac, sb, se, read_of}
 
 -- where the reader stands after the bytes
@@ -62,17 +61,14 @@ whole_from bytes from =
     eqb (get_or bytes from 0) sb && (not (eqb (get_or bytes (from + 1) 0) iac)
     && (ltb (end + 1) (length bytes) && eqb (get_or bytes (end + 1) 0) se))
 
-unfoldable pub sub_from : List ℕ → ℕ → Ahead
+unfoldable pub sub_from : List ℕ → ℕ → Option WholeSub
 sub_from bytes from =
     let end = data_end bytes (from + 2) in
-    if whole_from bytes from then WholeSub (get_or bytes (from + 1) 0) (from + 2) end (end + 2) else Other
+    if whole_from bytes from
+    then Some (record { option = get_or bytes (from + 1) 0; start = from + 2; end = end; next = end + 2 })
+    else None
 
 -- what is ahead of a reader in this phase: a whole subnegotiation is looked for after an IAC alone
-unfoldable pub ahead_of : Phase → List ℕ → ℕ → Ahead
-ahead_of Rest bytes from = Other
+unfoldable pub ahead_of : Phase → List ℕ → ℕ → Option WholeSub
 ahead_of Iac bytes from = sub_from bytes from
-ahead_of (Negotiating v) bytes from = Other
-ahead_of Opening bytes from = Other
-ahead_of OpeningIac bytes from = Other
-ahead_of (Inside o) bytes from = Other
-ahead_of (InsideIac o) bytes from = Other
+ahead_of p bytes from = None

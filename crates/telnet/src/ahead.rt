@@ -6,65 +6,47 @@ use crate::Phase;
 use crate::code::{IAC, SB, SE};
 use crate::stretch::data_end;
 
-// What is ahead of a reader.
-#[derive(Clone, Copy)]
-pub enum Ahead {
-    // a whole subnegotiation: its bytes stand from `start` up to `end`, and reading goes on at rest, at `next`
-    WholeSub {
-        option: u8,
-        start: usize,
-        end: usize,
-        next: usize,
-    },
-    // anything else
-    Other,
+// A whole subnegotiation: its bytes stand from `start` up to `end`, and reading goes on at rest, at `next`.
+#[derive(Clone, Copy, Debug, PartialEq, Eq)]
+pub struct WholeSub {
+    pub option: u8,
+    pub start: usize,
+    pub end: usize,
+    pub next: usize,
 }
 
 // After an IAC.
 #[tactic(auto, using(crate::proofs::AheadLaws::looking_ahead))]
-fn sub_from(input: &[u8], from: usize) -> Ahead
+fn sub_from(input: &[u8], from: usize) -> Option<WholeSub>
     ensures { result ≡ sub_from input.now from }
 {
-    if input.len() <= from {
-        return Ahead::Other;
+    if *input.get(from)? != SB {
+        return None;
     }
-    if input.len() - from < 4 {
-        return Ahead::Other;
-    }
-    if input[from] != SB {
-        return Ahead::Other;
-    }
-    let option = input[from + 1];
+    let option = *input.get(from + 1)?;
     if option == IAC {
-        return Ahead::Other;
+        return None;
     }
-    let end = data_end(input, from + 2);
-    if input.len() - end < 2 {
-        return Ahead::Other;
+    let start = from + 2;
+    let end = data_end(input, start);
+    if *input.get(end + 1)? != SE {
+        return None;
     }
-    if input[end + 1] != SE {
-        return Ahead::Other;
-    }
-    Ahead::WholeSub {
-        option: option,
-        start: from + 2,
-        end: end,
+    Some(WholeSub {
+        option,
+        start,
+        end,
         next: end + 2,
-    }
+    })
 }
 
 // In any phase.
 #[tactic(auto, unfolding(crate::specs::Stream::ahead_of))]
-pub fn look_ahead(phase: Phase, input: &[u8], from: usize) -> Ahead
+pub fn look_ahead(phase: Phase, input: &[u8], from: usize) -> Option<WholeSub>
     ensures { result ≡ ahead_of phase input.now from }
 {
     match phase {
         Phase::Iac => sub_from(input, from),
-        Phase::Rest => Ahead::Other,
-        Phase::Negotiating(_) => Ahead::Other,
-        Phase::Opening => Ahead::Other,
-        Phase::OpeningIac => Ahead::Other,
-        Phase::Inside(_) => Ahead::Other,
-        Phase::InsideIac(_) => Ahead::Other,
+        _ => None,
     }
 }

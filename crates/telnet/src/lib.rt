@@ -4,7 +4,8 @@
 #![tactic(auto)]
 
 ghost use Rattle.std.specs.Prelude.{◌≡◌};
-ghost use Rattle.telnet.specs.Reader.{after_iac, thrown_away, opening, opening_iac, inside, inside_iac, read_of};
+ghost use Rattle.telnet.specs.Reader.{verb_code, ReadsVerb};
+ghost use Rattle.telnet.specs.Reader.{silent, after_iac, thrown_away, opening, opening_iac, inside, inside_iac, read_of};
 
 pub mod ahead;
 pub mod code;
@@ -13,7 +14,7 @@ pub mod stretch;
 use code::{DO, DONT, IAC, SB, SE, WILL, WONT};
 
 // The four commands that take an option byte.
-#[derive(Clone, Copy)]
+#[derive(Clone, Copy, Debug, PartialEq, Eq)]
 pub enum Verb {
     Will,
     Wont,
@@ -21,8 +22,41 @@ pub enum Verb {
     Dont,
 }
 
+// A byte that is no verb.
+#[derive(Clone, Copy, Debug, PartialEq, Eq)]
+pub struct NoVerb(pub u8);
+
+impl From<Verb> for u8 {
+    ghost from_gives = { λ verb byte. byte ≡ verb_code verb };
+
+    fn from(verb: Verb) -> u8 {
+        match verb {
+            Verb::Will => WILL,
+            Verb::Wont => WONT,
+            Verb::Do => DO,
+            Verb::Dont => DONT,
+        }
+    }
+}
+
+impl TryFrom<u8> for Verb {
+    type Error = NoVerb;
+
+    ghost try_from_gives = { ReadsVerb };
+
+    fn try_from(byte: u8) -> Result<Self, NoVerb> {
+        match byte {
+            WILL => Ok(Verb::Will),
+            WONT => Ok(Verb::Wont),
+            DO => Ok(Verb::Do),
+            DONT => Ok(Verb::Dont),
+            _ => Err(NoVerb(byte)),
+        }
+    }
+}
+
 // Where in the stream the reader stands. Every value is a place it can stand at.
-#[derive(Clone, Copy)]
+#[derive(Clone, Copy, Debug, PartialEq, Eq)]
 pub enum Phase {
     // outside any command
     Rest,
@@ -41,7 +75,7 @@ pub enum Phase {
 }
 
 // What a byte tells.
-#[derive(Clone, Copy)]
+#[derive(Clone, Copy, Debug, PartialEq, Eq)]
 pub enum Event {
     // nothing yet, or a command that does nothing
     Nothing,
@@ -60,14 +94,26 @@ pub enum Event {
 }
 
 // Where the reader stands after a byte, and what the byte told.
-#[derive(Clone, Copy)]
+#[derive(Clone, Copy, Debug, PartialEq, Eq)]
 pub struct Step {
     pub phase: Phase,
     pub event: Event,
 }
 
+impl Step {
+    // A byte that tells nothing.
+    fn silent(phase: Phase) -> Step
+        ensures { result ≡ silent phase }
+    {
+        Step {
+            phase,
+            event: Event::Nothing,
+        }
+    }
+}
+
 // A byte after IAC, outside a subnegotiation.
-#[tactic(auto, unfolding(crate::specs::Reader::after_iac))]
+#[tactic(auto, using(crate::proofs::Laws::verb_waits, crate::proofs::Laws::no_verb_rests), unfolding(crate::specs::Reader::after_iac))]
 fn command(byte: u8) -> Step
     ensures { result ≡ after_iac byte }
 {
@@ -76,29 +122,10 @@ fn command(byte: u8) -> Step
             phase: Phase::Rest,
             event: Event::Data(IAC),
         },
-        SB => Step {
-            phase: Phase::Opening,
-            event: Event::Nothing,
-        },
-        WILL => Step {
-            phase: Phase::Negotiating(Verb::Will),
-            event: Event::Nothing,
-        },
-        WONT => Step {
-            phase: Phase::Negotiating(Verb::Wont),
-            event: Event::Nothing,
-        },
-        DO => Step {
-            phase: Phase::Negotiating(Verb::Do),
-            event: Event::Nothing,
-        },
-        DONT => Step {
-            phase: Phase::Negotiating(Verb::Dont),
-            event: Event::Nothing,
-        },
-        _ => Step {
-            phase: Phase::Rest,
-            event: Event::Nothing,
+        SB => Step::silent(Phase::Opening),
+        _ => match Verb::try_from(byte) {
+            Ok(verb) => Step::silent(Phase::Negotiating(verb)),
+            Err(_) => Step::silent(Phase::Rest),
         },
     }
 }
@@ -108,11 +135,9 @@ fn command(byte: u8) -> Step
 fn throw_away(byte: u8) -> Step
     ensures { result ≡ thrown_away byte }
 {
-    let next = command(byte);
-    let phase = next.phase;
     Step {
-        phase: phase,
         event: Event::Lost,
+        ..command(byte)
     }
 }
 
@@ -121,16 +146,12 @@ fn throw_away(byte: u8) -> Step
 fn open_sub(byte: u8) -> Step
     ensures { result ≡ opening byte }
 {
-    if byte == IAC {
-        Step {
-            phase: Phase::OpeningIac,
-            event: Event::Nothing,
-        }
-    } else {
-        Step {
+    match byte {
+        IAC => Step::silent(Phase::OpeningIac),
+        _ => Step {
             phase: Phase::Inside(byte),
             event: Event::Begin(byte),
-        }
+        },
     }
 }
 
@@ -157,19 +178,12 @@ fn open_sub_iac(byte: u8) -> Step
 fn in_sub(option: u8, byte: u8) -> Step
     ensures { result ≡ inside option byte }
 {
-    if byte == IAC {
-        Step {
-            phase: Phase::InsideIac(option),
-            event: Event::Nothing,
-        }
-    } else {
-        Step {
+    match byte {
+        IAC => Step::silent(Phase::InsideIac(option)),
+        _ => Step {
             phase: Phase::Inside(option),
-            event: Event::Sub {
-                option: option,
-                byte: byte,
-            },
-        }
+            event: Event::Sub { option, byte },
+        },
     }
 }
 
@@ -181,10 +195,7 @@ fn in_sub_iac(option: u8, byte: u8) -> Step
     match byte {
         IAC => Step {
             phase: Phase::Inside(option),
-            event: Event::Sub {
-                option: option,
-                byte: IAC,
-            },
+            event: Event::Sub { option, byte: IAC },
         },
         SE => Step {
             phase: Phase::Rest,
@@ -199,16 +210,12 @@ fn in_sub_iac(option: u8, byte: u8) -> Step
 fn at_rest(byte: u8) -> Step
     ensures { result ≡ read_of Phase.Rest byte }
 {
-    if byte == IAC {
-        Step {
-            phase: Phase::Iac,
-            event: Event::Nothing,
-        }
-    } else {
-        Step {
+    match byte {
+        IAC => Step::silent(Phase::Iac),
+        _ => Step {
             phase: Phase::Rest,
             event: Event::Data(byte),
-        }
+        },
     }
 }
 
@@ -222,10 +229,7 @@ pub fn read(phase: Phase, byte: u8) -> Step
         Phase::Iac => command(byte),
         Phase::Negotiating(verb) => Step {
             phase: Phase::Rest,
-            event: Event::Negotiation {
-                verb: verb,
-                option: byte,
-            },
+            event: Event::Negotiation { verb, option: byte },
         },
         Phase::Opening => open_sub(byte),
         Phase::OpeningIac => open_sub_iac(byte),

@@ -1,22 +1,21 @@
--- What tally's own functions say of one another: a stream that is counted up to some place.
-use Rattle.std.specs.Prelude.{ℕ, ◌+◌, ◌≤◌, ◌<◌, ◌≡◌, List, drop}
-use Rattle.telnet.specs.declared.Phase.TheVariants.{Rest}
-use Rattle.telnet.specs.Stream.{events_of}
+-- What tally's own functions say of one another.
+use Rattle.std.specs.Prelude.{ℕ, ◌+◌, Bool, true, false}
+use Rattle.telnet.specs.declared.Phase.{Phase}
+use Rattle.telnet.specs.declared.Phase.TheVariants.{Rest, Iac, Negotiating, Opening, OpeningIac, Inside, InsideIac}
 use Rattle.tally.specs.declared.Tally.{Tally}
-use Rattle.tally.specs.declared.Progress.{Progress}
-use Rattle.tally.specs.Counts.{plus, tally_of}
+use Rattle.tally.specs.Counts.{counts}
 
 -- the four counts together
 abbrev pub total : Tally → ℕ
 total t = t.data_bytes + t.negotiations + t.payload + t.ended
 
--- The input is counted up to p: the counts so far and those of what is left are those of the whole, and they fit, since no more
--- is counted than bytes are read.
-pub record Counting (input : List ℕ) (p : Progress) : Type 0 where
-  pub whole : plus p.tally (tally_of (events_of p.phase (drop p.at input))) ≡ tally_of (events_of Rest input)
-  pub few : total p.tally ≤ p.at
+-- a reader in this phase stands in a stretch
+abbrev pub in_stretch : Phase → Bool
+in_stretch Rest = true
+in_stretch (Inside o) = true
+in_stretch p = false
 
--- At q it is counted further than at p.
-pub record Further (input : List ℕ) (p q : Progress) : Type 0 where
-  pub counting : Counting input q
-  pub further : p.at < q.at
+-- what so many bytes of a stretch add: payload in a subnegotiation, else data
+abbrev pub stretched : Phase → ℕ → Tally
+stretched (Inside o) n = counts 0 0 n 0
+stretched p n = counts n 0 0 0

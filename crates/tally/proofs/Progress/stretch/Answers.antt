@@ -1,0 +1,15 @@
+use Rattle.telnet.proofs.StretchLaws.{stretch_lies}
+use Rattle.tally.proofs.Laws.{stretch_counted}
+use Rattle.tally.proofs.Progress.stretch.Goals as goal
+
+pub overflow_sub-stretch : goal.overflow_sub-stretch
+overflow_sub-stretch c = rw c.stretch_at-stretch.ensures (stretch_lies _ _ _ c.requires.more).onward
+
+pub returns-clause-further : goal.returns-clause-further
+returns-clause-further c = rw c.stretch_at-stretch.ensures (stretch_lies _ _ _ c.requires.more).further
+
+pub invariant_of-self : goal.invariant_of-self
+invariant_of-self c =
+    let p = c.args.self.now in
+    let k = stretch_counted (record { whole = p.whole; few = p.few }) c.requires.more c.requires.inside c.stretch_at-stretch.ensures in
+    rw c.stretched-self.ensures (record { whole = k.whole; few = k.few })

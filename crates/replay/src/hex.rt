@@ -1,32 +1,23 @@
 // Hexadecimal digits, in lower case.
+ghost use Rattle.std.specs.Prelude.{◌<◌, IfSome};
 
-// What a byte is as a digit: 16 where it is none.
-pub(crate) fn value(byte: u8) -> u8 {
+const DIGITS: &[u8; 16] = b"0123456789abcdef";
+
+// What a byte is as a digit. `char::to_digit` would take upper case too.
+pub(crate) fn value(byte: u8) -> Option<u8>
+    ensures { IfSome result (λ n. n < 16) }
+{
     match byte {
-        b'0'..=b'9' => byte - b'0',
-        b'a'..=b'f' => byte - b'a' + 10,
-        _ => 16,
+        b'0'..=b'9' => Some(byte - b'0'),
+        b'a'..=b'f' => Some(byte - b'a' + 10),
+        _ => None,
     }
 }
 
-// The digit of a number below 16.
-fn digit(n: u8) -> u8 {
-    match n {
-        0..=9 => b'0' + n,
-        10..=15 => b'a' + (n - 10),
-        _ => b'-',
-    }
-}
-
-pub(crate) fn high(byte: u8) -> u8 {
-    digit(byte / 16)
-}
-
-pub(crate) fn low(byte: u8) -> u8 {
-    digit(byte % 16)
-}
-
-// The byte of two digits' values.
-pub(crate) fn joined(left: u8, right: u8) -> u8 {
-    left % 16 * 16 + right % 16
+// The two digits of a byte.
+pub(crate) fn digits(byte: u8) -> [u8; 2] {
+    [
+        DIGITS[usize::from(byte / 16)],
+        DIGITS[usize::from(byte % 16)],
+    ]
 }

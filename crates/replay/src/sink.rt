@@ -1,102 +1,77 @@
 // Standard output, written in blocks.
+ghost use Rattle.std.specs.Prelude.{◌≡◌, ◌≤◌};
+
 use crate::hex;
-use crate::number::least;
-use itoa::Buffer;
+use std::io;
 use std::io::{Stdout, Write};
 
-// How many bytes the block holds that are still to be written, and whether a write has failed.
-#[derive(Clone, Copy)]
-pub struct Sink {
-    pub stdout: Stdout,
-    pub length: usize,
-    pub failed: bool,
+const BLOCK: usize = 65_536;
+
+// The first `length` bytes of the block are still to be written. The block is no `BufWriter`'s: those lie on the heap, and
+// write once more, when they are dropped, what could not be written.
+#[derive(Drop)]
+pub(crate) struct Sink {
+    stdout: Stdout,
+    block: [u8; BLOCK],
+    length: usize,
+    ghost within: { length ≤ 65536 },
 }
 
-pub(crate) fn empty(stdout: Stdout) -> Sink {
-    Sink {
-        stdout: stdout,
-        length: 0,
-        failed: false,
-    }
-}
-
-// Writes what the block holds.
-pub(crate) fn flush(out: &[u8], sink: Sink) -> Sink {
-    let length = sink.length;
-    if sink.failed {
-        return sink;
-    }
-    let n = least(length, out.len());
-    let mut stdout = sink.stdout;
-    let is_written = stdout.write_all(&out[0..n]).is_ok();
-    Sink {
-        stdout: stdout,
-        length: 0,
-        failed: !is_written,
-    }
-}
-
-// Puts a byte where there is room for it.
-fn store(out: &mut [u8], sink: Sink, byte: u8) -> Sink {
-    let length = sink.length;
-    if length >= out.len() {
-        return Sink {
-            stdout: sink.stdout,
+impl Sink {
+    pub(crate) fn new(stdout: Stdout) -> Self {
+        Sink {
+            stdout,
+            block: [0; BLOCK],
             length: 0,
-            failed: true,
-        };
+        }
     }
-    out[length] = byte;
-    Sink {
-        stdout: sink.stdout,
-        length: length + 1,
-        failed: sink.failed,
+
+    // Writes what the block holds. What cannot be written is not tried again.
+    fn empty(&mut self) -> io::Result<()>
+        ensures { self.new.length ≡ 0 }
+    {
+        let n = self.length;
+        self.length = 0;
+        self.stdout.write_all(&self.block[..n])
+    }
+
+    // One byte more. A block that is full is written first.
+    fn put(&mut self, byte: u8) -> io::Result<()> {
+        if self.length >= BLOCK {
+            self.empty()?;
+        }
+        self.block[self.length] = byte;
+        self.length += 1;
+        Ok(())
+    }
+
+    // Bytes in hexadecimal, or a dash where there are none.
+    pub(crate) fn hex(&mut self, bytes: &[u8]) -> io::Result<()> {
+        if bytes.is_empty() {
+            return self.put(b'-');
+        }
+        for byte in bytes {
+            let [high, low] = hex::digits(*byte);
+            self.put(high)?;
+            self.put(low)?;
+        }
+        Ok(())
     }
 }
 
-// One byte more. A block that is full is written first.
-pub(crate) fn put(out: &mut [u8], sink: Sink, byte: u8) -> Sink {
-    if sink.length < out.len() {
-        return store(out, sink, byte);
+impl Write for Sink {
+    fn write(&mut self, bytes: &[u8]) -> io::Result<usize> {
+        if self.length >= BLOCK {
+            self.empty()?;
+        }
+        let at = self.length;
+        let n = bytes.len().min(BLOCK - at);
+        self.block[at..at + n].copy_from_slice(&bytes[..n]);
+        self.length = at + n;
+        Ok(n)
     }
-    let flushed = flush(out, sink);
-    store(out, flushed, byte)
-}
 
-pub(crate) fn text(out: &mut [u8], sink: Sink, bytes: &[u8]) -> Sink {
-    let mut sink = sink;
-    let mut i = 0;
-    while i < bytes.len() {
-        let next = put(out, sink, bytes[i]);
-        sink = next;
-        i += 1;
+    fn flush(&mut self) -> io::Result<()> {
+        self.empty()
     }
-    sink
-}
-
-// A number, in decimal.
-pub(crate) fn number(out: &mut [u8], sink: Sink, n: u64) -> Sink {
-    let mut digits = Buffer::new();
-    text(out, sink, digits.format(n).as_bytes())
-}
-
-// A byte, in hexadecimal.
-fn digits(out: &mut [u8], sink: Sink, byte: u8) -> Sink {
-    let high = put(out, sink, hex::high(byte));
-    put(out, high, hex::low(byte))
-}
-
-// Bytes, or a dash where there are none.
-pub(crate) fn bytes(out: &mut [u8], sink: Sink, bytes: &[u8]) -> Sink {
-    if bytes.len() == 0 {
-        return put(out, sink, b'-');
-    }
-    let mut sink = sink;
-    let mut i = 0;
-    while i < bytes.len() {
-        let next = digits(out, sink, bytes[i]);
-        sink = next;
-        i += 1;
-    }
-    sink
 }

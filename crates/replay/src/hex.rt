@@ -1,5 +1,5 @@
 // Hexadecimal digits, in lower case.
-ghost use Rattle.std.specs.Prelude.{◌<◌, IfSome};
+ghost use Rattle.std.specs.Prelude.{◌<◌, ◌≤◌, IfSome, length};
 
 const DIGITS: &[u8; 16] = b"0123456789abcdef";
 
@@ -14,10 +14,13 @@ pub(crate) fn value(byte: u8) -> Option<u8>
     }
 }
 
-// The two digits of a byte.
-pub(crate) fn digits(byte: u8) -> [u8; 2] {
-    [
-        DIGITS[usize::from(byte / 16)],
-        DIGITS[usize::from(byte % 16)],
-    ]
+// The digits of bytes, at the start of `out`.
+pub(crate) fn digits<'a>(bytes: &[u8], out: &'a mut [u8; 64]) -> &'a [u8]
+    requires { length bytes.now ≤ 32 }
+{
+    for (i, byte) in bytes.iter().enumerate() {
+        out[2 * i] = DIGITS[usize::from(*byte / 16)];
+        out[2 * i + 1] = DIGITS[usize::from(*byte % 16)];
+    }
+    &out[..2 * bytes.len()]
 }

@@ -79,7 +79,8 @@ fn key(source: &mut Source) -> Result<Order<'static>, Stop> {
     })
 }
 
-// The rest of a line that begins with this word.
+// The rest of a line that begins with this word. An arm that lends the bytes returns by itself: what is lent on some arms alone
+// is not proved where arms join.
 fn rest<'a>(
     source: &mut Source,
     word: &[u8],

@@ -5,7 +5,6 @@ use crate::sink::Sink;
 use admit::edition::name_of;
 use admit::number::number_of;
 use command::facility::own_maps;
-use pad::line::EditLine;
 use rules::{Answer, Frame, Maps, Pad, Reader};
 use std::io;
 use std::io::Write;

@@ -1,7 +1,7 @@
 // Standard input, read in blocks and handed out field by field: words, numbers and bytes. A line is of fields, parted by
 // one space each, and ends with a newline or with the input. It has no greatest length: no line is ever held whole.
 // A field that is missing is an empty one, and an empty field is bad.
-ghost use Rattle.std.specs.Prelude.{◌≤◌, ◌<◌, IfOk};
+ghost use Rattle.std.specs.Prelude.{◌≤◌, ◌<◌, IfOk, length};
 
 use crate::hex;
 use crate::stop::Stop;
@@ -26,7 +26,7 @@ pub(crate) struct Source {
     at: usize,
     end: usize,
     stand: Stand,
-    ghost within: { end ≤ 65536 },
+    ghost within: { end ≤ length block },
 }
 
 impl Source {

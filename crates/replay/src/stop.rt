@@ -21,7 +21,7 @@ impl fmt::Display for Stop {
     }
 }
 
-// Standard input is read in one place, and written to in many.
+// What `?` makes of an error: standard output is written in many places, and standard input read in one.
 impl From<io::Error> for Stop {
     fn from(_: io::Error) -> Stop {
         Stop::Output

@@ -1,7 +1,7 @@
 -- Laws of the counts, and of counting on.
-use Rattle.std.specs.Prelude.{Option, Some}
+use Rattle.std.specs.Prelude.{Some}
 use mathlib.Core.Path.{◌≡◌, refl}
-use mathlib.Core.Bool.{Bool, true, false}
+use mathlib.Core.Bool.{true, false}
 use mathlib.Core.List.{List, [], ◌∷◌, ◌++◌, map}
 use Prim.Native.Nat.{ℕ, ◌+◌, ◌-◌, ◌≤◌, ◌<◌}
 use native.Mathlib.Nat.{add-zero, zero-add, add_assoc}
@@ -18,7 +18,7 @@ use Rattle.telnet.specs.Stream.{as_list, events_of, part, stretch_of}
 use Rattle.telnet.proofs.Laws.{Reads}
 use Rattle.telnet.specs.declared.ahead.WholeSub.{WholeSub}
 use Rattle.telnet.proofs.AheadLaws.{Stands, whole_read}
-use Rattle.telnet.proofs.StretchLaws.{Onward, Lies, bytes, byte_onward, stretch_length, stretch_lies, data_stretch, payload_stretch, onward}
+use Rattle.telnet.proofs.StretchLaws.{Onward, bytes, byte_onward, stretch_length, stretch_lies, data_stretch, payload_stretch, onward}
 use Rattle.tally.specs.declared.Tally.{Tally}
 use Rattle.tally.specs.Counts.{counts, none, tallied, plus, tally_of}
 use Rattle.tally.specs.Inner.Counting.{total, in_stretch, stretched}
@@ -89,7 +89,8 @@ pub record Counting (input : List ℕ) (phase : Phase) (at : ℕ) (tally : Tally
   pub few : total tally ≤ at
 
 -- nothing is counted yet
-pub start_counted : (input : List ℕ) (t : Tally) → t.data_bytes ≡ 0 → t.negotiations ≡ 0 → t.payload ≡ 0 → t.ended ≡ 0 → Counting input Rest 0 t
+pub start_counted : (input : List ℕ) (t : Tally) → t.data_bytes ≡ 0 → t.negotiations ≡ 0 → t.payload ≡ 0 → t.ended ≡ 0
+    → Counting input Rest 0 t
 unfolding plus
 start_counted input t d n p e = record { whole = rw (d, n, p, e) (simp zero-add); few = omega arith }
 
@@ -142,7 +143,8 @@ module _ {input : List ℕ} {phase : Phase} {at : ℕ} {tally : Tally} (c : Coun
   stretch_counted h inside {s} e =
       let t = stretch_tells input at phase inside in
       let l = stretch_lies input at phase h in
-      let fit : total (tally_of t.told) ≤ (stretch_of phase input at).next - at = rw (t.adds, total_stretched) (omega (arith, l.onward, l.forth)) in
+      let fit : total (tally_of t.told) ≤ (stretch_of phase input at).next - at =
+          rw (t.adds, total_stretched) (omega (arith, l.onward, l.forth)) in
       rw (e, ← t.adds) (further (onward input at (omega (arith, l.further)) t.reads) fit (omega (arith, l.further)))
 
   -- a whole subnegotiation, which adds its length to one count and itself to another

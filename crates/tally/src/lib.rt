@@ -78,55 +78,64 @@ impl<'a> Progress<'a> {
     }
 
     // One byte, by the reader.
-    fn byte(&mut self)
-        requires { self.old.at < length self.old.input.now }
-        ensures same { self.new.input.now ≡ self.old.input.now }
-        ensures further { self.old.at < self.new.at }
+    fn byte(self) -> Self
+        requires { self.at < length self.input.now }
+        ensures same { result.input.now ≡ self.entry.input.now }
+        ensures further { self.entry.at < result.at }
     {
         let step = read(self.phase, self.input[self.at]);
-        self.tally = self.tally.counted(step.event);
-        self.phase = step.phase;
-        self.at += 1;
+        Progress {
+            input: self.input,
+            phase: step.phase,
+            at: self.at + 1,
+            tally: self.tally.counted(step.event),
+        }
     }
 
     // In a stretch: its bytes up to the next IAC, and that IAC.
-    fn stretch(&mut self)
-        requires inside { in_stretch self.old.phase ≡ true }
-        requires more { self.old.at < length self.old.input.now }
-        ensures same { self.new.input.now ≡ self.old.input.now }
-        ensures further { self.old.at < self.new.at }
+    fn stretch(self) -> Self
+        requires inside { in_stretch self.phase ≡ true }
+        requires more { self.at < length self.input.now }
+        ensures same { result.input.now ≡ self.entry.input.now }
+        ensures further { self.entry.at < result.at }
     {
         let stretch = stretch_at(self.phase, self.input, self.at);
-        self.tally = self.tally.stretched(self.phase, stretch.end - self.at);
-        self.phase = stretch.phase;
-        self.at = stretch.next;
+        Progress {
+            input: self.input,
+            phase: stretch.phase,
+            at: stretch.next,
+            tally: self.tally.stretched(self.phase, stretch.end - self.at),
+        }
     }
 
     // A whole subnegotiation, where one is ahead.
-    fn whole_sub(&mut self)
-        ensures same { self.new.input.now ≡ self.old.input.now }
-        ensures forth { self.old.at ≤ self.new.at }
+    fn whole_sub(self) -> Self
+        ensures same { result.input.now ≡ self.entry.input.now }
+        ensures forth { self.entry.at ≤ result.at }
     {
         let Some(whole) = look_ahead(self.phase, self.input, self.at) else {
-            return;
+            return self;
         };
-        self.tally.payload += whole.end - whole.start;
-        self.tally.ended += 1;
-        self.phase = Phase::Rest;
-        self.at = whole.next;
+        Progress {
+            input: self.input,
+            phase: Phase::Rest,
+            at: whole.next,
+            tally: Tally {
+                payload: self.tally.payload + (whole.end - whole.start),
+                ended: self.tally.ended + 1,
+                ..self.tally
+            },
+        }
     }
 
-    // A stretch where the reader stands in one, and the subnegotiation after it if that is whole; else a byte.
-    fn turn(&mut self)
-        requires { self.old.at < length self.old.input.now }
-        ensures same { self.new.input.now ≡ self.old.input.now }
-        ensures further { self.old.at < self.new.at }
+    // A stretch where the reader stands in one, and after data the subnegotiation ahead if that is whole; else a byte.
+    fn turn(self) -> Self
+        requires { self.at < length self.input.now }
+        ensures same { result.input.now ≡ self.entry.input.now }
+        ensures further { self.entry.at < result.at }
     {
         match self.phase {
-            Phase::Rest => {
-                self.stretch();
-                self.whole_sub();
-            }
+            Phase::Rest => self.stretch().whole_sub(),
             Phase::Inside(_) => self.stretch(),
             _ => self.byte(),
         }
@@ -140,7 +149,7 @@ pub fn tally_of(input: &[u8]) -> Tally
 {
     let mut progress = Progress::start(input);
     while progress.at < input.len() {
-        progress.turn();
+        progress = progress.turn();
     }
     progress.tally
 }

@@ -109,6 +109,7 @@ pub fn stretch_at(phase: Phase, input: &[u8], from: usize) -> Stretch
     }
 }
 
+// `stretch_at` says both of the next two. They stay because they are public and the crate det calls them.
 // At rest: the data from `from` on.
 pub fn data_at(input: &[u8], from: usize) -> Stretch
     ensures { result ≡ stretch_of Rest input.now from }

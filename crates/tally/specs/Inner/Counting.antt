@@ -1,7 +1,7 @@
 -- What tally's own functions say of one another.
 use Rattle.std.specs.Prelude.{ℕ, ◌+◌, Bool, true, false}
 use Rattle.telnet.specs.declared.Phase.{Phase}
-use Rattle.telnet.specs.declared.Phase.TheVariants.{Rest, Iac, Negotiating, Opening, OpeningIac, Inside, InsideIac}
+use Rattle.telnet.specs.declared.Phase.TheVariants.{Rest, Inside}
 use Rattle.tally.specs.declared.Tally.{Tally}
 use Rattle.tally.specs.Counts.{counts}
 

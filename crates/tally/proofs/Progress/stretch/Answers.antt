@@ -8,8 +8,8 @@ overflow_sub-stretch c = rw c.stretch_at-stretch.ensures (stretch_lies _ _ _ c.r
 pub returns-clause-further : goal.returns-clause-further
 returns-clause-further c = rw c.stretch_at-stretch.ensures (stretch_lies _ _ _ c.requires.more).further
 
-pub invariant_of-self : goal.invariant_of-self
-invariant_of-self c =
-    let p = c.args.self.now in
+pub invariant_of-result : goal.invariant_of-result
+invariant_of-result c =
+    let p = c.args.self in
     let k = stretch_counted (record { whole = p.whole; few = p.few }) c.requires.more c.requires.inside c.stretch_at-stretch.ensures in
-    rw c.stretched-self.ensures (record { whole = k.whole; few = k.few })
+    rw c.stretched.ensures (record { whole = k.whole; few = k.few })

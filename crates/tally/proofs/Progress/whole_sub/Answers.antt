@@ -3,20 +3,20 @@ use Rattle.telnet.proofs.AheadLaws.{ahead_stands}
 use Rattle.tally.proofs.Laws.{sub_counted}
 use Rattle.tally.proofs.Progress.whole_sub.Goals as goal
 
-pub overflow_sub-self : goal.overflow_sub-self
-overflow_sub-self c = let k = (ahead_stands _ _ _ c.look_ahead.ensures c.in-Some.is).1 in omega (arith, k.forth)
+pub overflow_sub-result : goal.overflow_sub-result
+overflow_sub-result c = let k = (ahead_stands _ _ _ c.look_ahead.ensures c.in-Some.is).1 in omega (arith, k.forth)
 
-pub overflow_add-self : goal.overflow_add-self
-overflow_add-self c =
-    let p = c.args.self.now in
+pub overflow_add-result : goal.overflow_add-result
+overflow_add-result c =
+    let p = c.args.self in
     let w = ahead_stands _ _ _ c.look_ahead.ensures c.in-Some.is in
     let k = sub_counted (record { whole = p.whole; few = p.few }) w in
     let h = w.1.within in
     omega arith
 
-pub overflow_add-self-2 : goal.overflow_add-self-2
-overflow_add-self-2 c =
-    let p = c.args.self.now in
+pub overflow_add-result-2 : goal.overflow_add-result-2
+overflow_add-result-2 c =
+    let p = c.args.self in
     let w = ahead_stands _ _ _ c.look_ahead.ensures c.in-Some.is in
     let k = sub_counted (record { whole = p.whole; few = p.few }) w in
     let h = w.1.within in
@@ -26,8 +26,8 @@ pub returns-clause-forth : goal.returns-clause-forth
 returns-clause-forth c =
     let k = (ahead_stands _ _ _ c.look_ahead.ensures c.in-Some.is).1 in omega (arith, k.after, k.forth, k.on)
 
-pub invariant_of-self : goal.invariant_of-self
-invariant_of-self c =
-    let p = c.args.self.now in
+pub invariant_of-result : goal.invariant_of-result
+invariant_of-result c =
+    let p = c.args.self in
     let k = sub_counted (record { whole = p.whole; few = p.few }) (ahead_stands _ _ _ c.look_ahead.ensures c.in-Some.is) in
     record { whole = k.whole; few = k.few }

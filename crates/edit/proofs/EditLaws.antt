@@ -270,16 +270,7 @@ module _ (from end by : ℕ) (xs : List ℕ) (e : lies from end xs ≡ true) (i 
 -- ---- a text in a reply
 
 module _ {chars reply : List ℕ} {from end at : ℕ} where
-  -- a text that cannot be copied leaves the reply as it was
-  pub copied_not : can_copy chars reply from end at ≡ false → Copied chars reply from end at reply at
-  copied_not e = record { bytes = rw e; next = rw e }
-
-  -- one that can stands in the reply
-  pub copied_all : {reply' : List ℕ} → can_copy chars reply from end at ≡ true → reply' ≡ paste reply at (drop from chars) (end - from)
-      → Copied chars reply from end at reply' (at + (end - from))
-  copied_all e p = record { bytes = p ∙ rw e; next = rw e }
-
-  -- and then the reply and the next place are known
+  -- where a text can be copied, the reply and the next place are known
   pub copied_whole : {reply' : List ℕ} {at' : ℕ} → Copied chars reply from end at reply' at' → can_copy chars reply from end at ≡ true
       → (reply' ≡ paste reply at (drop from chars) (end - from)) × (at' ≡ at + (end - from))
   copied_whole c e = (c.bytes ∙ rw e, c.next ∙ rw e)

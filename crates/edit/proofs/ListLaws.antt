@@ -32,10 +32,6 @@ after_set s j v k x h same other =
 kept : (s : List ℕ) (k d v : ℕ) (b : Bool) → k < length s → b ≡ false → get_or s k 0 ≡ (if b then v else get_or s k d)
 kept s k d v b h e = rw e (get_d-within s k 0 d h)
 
--- no place before the first passes
-pub storing_start : {test : ℕ → Bool} {v d i : ℕ} {s₀ : List ℕ} → ((k : ℕ) → k < i → test k ≡ false) → Storing test v d s₀ i s₀
-storing_start {test} {v} {d} {i} {s₀} none = record { long = refl; below = λ k a b. kept s₀ k d v (test k) b (none k a); above = λ k a b. refl }
-
 module _ {test : ℕ → Bool} {v d i : ℕ} {s₀ s : List ℕ} (m : Storing test v d s₀ i s) where
   -- the store at i
   pub storing_next : i < length s₀ → {w : ℕ} → w ≡ (if test i then v else get_or s i 0) → Storing test v d s₀ (i + 1) (set s i w)

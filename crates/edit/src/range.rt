@@ -53,7 +53,6 @@ pub fn fill(bytes: &mut [u8], from: usize, end: usize, byte: u8)
 }
 
 // Spaces in the cells of the range that are not protected. The loop reads and stores each cell, so that the compiler does sixteen at once.
-#[tactic(auto, using(crate::proofs::ListLaws::storing_start, crate::proofs::ListLaws::before_range))]
 fn erase_unprotected(chars: &mut [u8], attrs: &[u8], from: usize, end: usize)
     ensures { chars.new ≡ erased false chars.old attrs.now from end }
 {

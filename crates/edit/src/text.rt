@@ -3,7 +3,6 @@ ghost use Rattle.edit.specs.Edits.{Copied};
 
 // Copies the text of a range of cells into the reply from `at` on, and returns the place after it.
 // (Document 01, code places: the part of the character buffer from the cursor on is handed on to be sent.)
-#[tactic(auto, using(crate::proofs::EditLaws::copied_all))]
 pub fn copy_text(chars: &[u8], reply: &mut [u8], from: usize, end: usize, at: usize) -> usize
     ensures { Copied chars.now reply.old from end at reply.new result }
 {

@@ -1,22 +1,22 @@
 -- Laws of decisions: what meets `Decides`, and which cells are the screen's.
-use mathlib.Core.Path.{◌≡◌, ◌∙◌}
-use mathlib.Core.Bool.{Bool, true, false}
+use Rattle.std.specs.Prelude.{Some, None, if◌then◌else◌}
+use Rattle.std.proofs.lemmas.Option.{none-some}
+use mathlib.Core.Path.{◌≡◌, sym, ◌∙◌}
+use mathlib.Core.Bool.{Bool, true}
 use Prim.Native.Nat.{ℕ, ◌-◌, ◌≤◌, ◌<◌, min}
 use native.Mathlib.Omega.{arith}
-use lib.Dec.{ltb, eqb}
 use lib.ListN.{length}
-use borrow.Author.Tests.{lt-ltb, eq-eqb, ltb-true, eqb-true}
-use Rattle.screen.specs.Cells.{cell_of, on_screen}
+use borrow.Author.Tests.{lt-ltb, eq-eqb}
+use Rattle.screen.specs.Cells.{cell_of}
 use Rattle.screen.specs.Fields.{first_from, last_before}
 use Rattle.screen.proofs.CellLaws.{cell_lt}
-use Rattle.words.proofs.Laws.{and_left, and_right}
+use Rattle.words.proofs.Laws.{true_or_false}
 use Rattle.screen.proofs.WordLaws.{first_below, last_below}
 use Rattle.rules.specs.declared.Frame.{Frame}
 use Rattle.rules.specs.Session.{View, cells}
 use Rattle.rules.specs.Effect.{Effect}
 use Rattle.decide.specs.declared.decision.Edit.TheVariants.{Nothing}
 use Rattle.decide.specs.declared.decision.Say.TheVariants.{Silent}
-use Rattle.decide.specs.declared.decision.Format.TheVariants.{Keep}
 use Rattle.decide.specs.declared.decision.Decision.{Decision}
 use Rattle.command.specs.Frame.{fitting}
 use Rattle.command.specs.Inner.Frame.{OnScreen, Fits}
@@ -46,36 +46,27 @@ module _ {v : View} (h : Fits v) (test : ℕ → Bool) (i none : ℕ) (below : n
 
 -- ---- any view
 
-module _ {v : View} where
-  -- the test tells what it is for
-  pub fits_found : fitting v ≡ true → Fits v
-  fits_found e =
-      let f = v.frame in
-      let long = eqb (length v.attrs) (cells f) in
-      let on = and_left (on_screen f.width f.height f.cursor) long e in
-      let x = ltb f.cursor.x.0 f.width in
-      let y = ltb f.cursor.y.0 f.height in
-      record {
-        on = record { x = ltb-true _ _ (and_left x y on); y = ltb-true _ _ (and_right x y on) };
-        long = eqb-true _ _ (and_right (on_screen f.width f.height f.cursor) long e);
-      }
+same_view : {w v : View} → Some w ≡ Some v → w ≡ v
+same_view e = cc
 
+module _ {v : View} where
   found_fits : Fits v → fitting v ≡ true
   found_fits h = rw (lt-ltb _ _ h.on.x, lt-ltb _ _ h.on.y, eq-eqb _ _ h.long)
 
   module _ {d : Decision} (rule : View → Effect) where
-    pub where_fits_lem : fitting v ≡ true → Decides v d rule → Decides v d (where_fits rule)
+    -- a decision where there is a view, and where there is none
+    pub where_some : {w : View} → Some w ≡ (if fitting v then Some v else None) → Decides w d rule → Decides v d (where_fits rule)
     unfolding where_fits
-    where_fits_lem e by = recast by (rw e)
+    where_some {w} e by =
+        true_or_false (fitting v) (λ f. let same : w ≡ v = same_view (e ∙ rw f) in recast (rw same at by) (rw f))
+        (λ f. absurd (none-some w (sym (e ∙ rw f))))
 
-    pub where_not : fitting v ≡ false → d ≡ decision v.frame Nothing Silent Keep → Decides v d (where_fits rule)
+    pub where_none : None ≡ (if fitting v then Some v else None) → d ≡ decision v.frame Nothing Silent → Decides v d (where_fits rule)
     unfolding where_fits
-    where_not e q = decides q tt (rw e)
+    where_none e q =
+        true_or_false (fitting v) (λ f. absurd (none-some v (e ∙ rw f))) (λ f. decides q tt (rw f))
 
     -- what a caller who knows that the view fits has
     pub fits_rule : Fits v → Decides v d (where_fits rule) → Decides v d rule
     unfolding where_fits
     fits_rule h by = recast by (rw (found_fits h))
-
--- a decision where the frame fits, and where it does not
-pub ruleset by_fit = (fits_found, where_fits_lem, where_not)

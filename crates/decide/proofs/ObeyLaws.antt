@@ -1,43 +1,42 @@
 -- Laws of the subcommands: what lies on the screen, and which decisions the rules ask for.
+use Rattle.std.specs.Prelude.{Option, Some, None, Result, Err, ⊤}
 use mathlib.Core.Path.{◌≡◌, refl, sym, ap, ◌∙◌}
 use mathlib.Core.Bool.{Bool, true, false}
-use mathlib.Core.List.{[], ◌∷◌}
+use mathlib.Core.List.{[]}
 use Prim.Native.Nat.{ℕ, zero, suc, ◌*◌, ◌≤◌, ◌<◌}
 use native.Mathlib.Nat.{mul-le-mul_right}
 use native.Mathlib.Omega.{arith}
+use Rattle.std.proofs.Common.{ne_eqb}
 use lib.ListN.{length}
-use types.Run.{OneOf, miss}
-use denote.Enum.Declared.{tag_of}
 use Rattle.edit.specs.declared.range.Shift.{Shift}
 use Rattle.screen.specs.Cells.{line_end}
 use Rattle.screen.specs.Fields.{field_end}
 use Rattle.words.proofs.Laws.{either}
 use Rattle.screen.proofs.CellLaws.{line_within}
 use Rattle.screen.proofs.FieldLaws.{end_gt, start_le}
-use Rattle.rules.specs.declared.Command.{Command}
-use Rattle.rules.specs.declared.Governor.{Governor}
+use Rattle.rules.specs.declared.Command.TheVariants.{Repeat}
+use Rattle.rules.specs.declared.Edition.{Edition}
 use Rattle.rules.specs.declared.Code.{Code}
-use Rattle.rules.specs.declared.Code.TheVariants.{Known, Unknown}
 use Rattle.rules.specs.declared.Fault.{Fault}
-use Rattle.rules.specs.declared.Fault.TheVariants.{NoFault, NotAgreed, UnknownCode, OffScreen, TooManyParameters, TooFewParameters, BadValue, BadMap}
-use Rattle.rules.specs.contracts.Fault.{the_type}
+use Rattle.rules.specs.declared.Fault.TheVariants.{NotAgreed, UnknownCode, OffScreen, TooManyParameters, TooFewParameters, BadValue, BadMap}
 use Rattle.rules.specs.declared.Frame.{Frame}
 use Rattle.rules.specs.declared.Held.{Held}
 use Rattle.rules.specs.Session.{View, cells, cursor_cell, screen_end, with_attrs}
-use Rattle.rules.specs.Command.{Row, Listed, listed, unlisted, meaning, code_in, fault_of}
+use Rattle.rules.specs.Number.{error, fault_number}
+use Rattle.rules.specs.Edition.{code_for}
+use Rattle.rules.specs.Command.{Row, row_of, meaning, code_in, parameter, fault_of}
 use Rattle.rules.specs.Effect.{Effect, kept}
 use Rattle.rules.specs.Cursor.{cursor_guarded, home_cell, back_tab_cell, first_field_cell, next_field_cell, previous_open_cell}
 use Rattle.rules.specs.Telnet.{host_character, host_characters}
-use Rattle.rules.specs.Subcommand.{cursor_span_end, shifting, cursor_line_start, lines_guarded, line_shifting, erring, judged, looked}
+use Rattle.rules.specs.Subcommand.{cursor_span_end, shifting, cursor_line_start, lines_guarded, line_shifting, obeyed, erring, judged, looked, subcommand}
 use Rattle.command.specs.Inner.Frame.{OnScreen, Fits}
 use Rattle.decide.specs.declared.decision.Edit.TheVariants.{Nothing}
 use Rattle.decide.specs.declared.decision.Edit.TheVariants as edit
-use Rattle.decide.specs.declared.decision.Say.TheVariants.{Silent}
-use Rattle.decide.specs.declared.decision.Format.TheVariants.{Keep}
+use Rattle.decide.specs.declared.decision.Say.TheVariants.{Silent, Three}
 use Rattle.decide.specs.declared.decision.Decision.{Decision}
 use Rattle.decide.specs.Decision.{Decides, shown}
 use Rattle.decide.specs.Inner.Decision.{decision, Judges}
-use Rattle.decide.proofs.DecideLaws.{recast, cursor_lt, first_lt, last_lt}
+use Rattle.decide.proofs.DecideLaws.{decides, recast, cursor_lt, first_lt, last_lt}
 
 -- ---- what lies on the screen
 
@@ -91,20 +90,20 @@ module _ {v : View} (fits : Fits v) where
 
 -- 15 and 16: what a shift does on a guarded cell, and on another
 module _ {v : View} {guarded : Bool} (e : guarded ≡ cursor_guarded v) (s : Shift) where
-  pub shift_not : guarded ≡ true → Decides v (decision v.frame Nothing Silent Keep) (λ v. shifting v s)
+  pub shift_not : guarded ≡ true → Decides v (decision v.frame Nothing Silent) (λ v. shifting v s)
   shift_not t = record { meaning = rw (sym e ∙ t); sendable = tt }
 
   pub shift_span : guarded ≡ false
-      → Decides v (decision v.frame (edit.Shift s (cursor_cell v) (cursor_span_end v) 1) Silent Keep) (λ v. shifting v s)
+      → Decides v (decision v.frame (edit.Shift s (cursor_cell v) (cursor_span_end v) 1) Silent) (λ v. shifting v s)
   shift_span t = record { meaning = rw (sym e ∙ t); sendable = tt }
 
 -- 13 and 14: the same, by a cell of the lines
 module _ {v : View} {guarded : Bool} (e : guarded ≡ lines_guarded v) (s : Shift) where
-  pub lines_not : guarded ≡ true → Decides v (decision v.frame Nothing Silent Keep) (λ v. line_shifting v s)
+  pub lines_not : guarded ≡ true → Decides v (decision v.frame Nothing Silent) (λ v. line_shifting v s)
   lines_not t = record { meaning = rw (sym e ∙ t); sendable = tt }
 
   pub lines_shifted : guarded ≡ false
-      → Decides v (decision v.frame (edit.Shift s (cursor_line_start v) (screen_end v) v.frame.width) Silent Keep) (λ v. line_shifting v s)
+      → Decides v (decision v.frame (edit.Shift s (cursor_line_start v) (screen_end v) v.frame.width) Silent) (λ v. line_shifting v s)
   lines_shifted t = record { meaning = rw (sym e ∙ t); sendable = tt }
 
 -- 37: a repeated character touches no attribute byte, and says nothing
@@ -125,8 +124,11 @@ unfolding host_characters
 repeat_unmarked zero v c = refl
 repeat_unmarked (suc n) v c = refl
 
-pub repeated : {v : View} {n c : ℕ} → Decides v (decision v.frame (edit.Repeat n c) Silent Keep) (λ v. host_characters n v c)
-repeated {v} {n} {c} = record { meaning = as_shown (host_characters n v c) (repeat_attrs n v c) (repeat_silent n v c); sendable = tt }
+pub repeated : {v : View} {d : Decision} (h : Held) {n c : ℕ} → n ≡ parameter h 0 → c ≡ parameter h 1
+    → d ≡ decision v.frame (edit.Repeat n c) Silent → Decides v d (λ v. obeyed v Repeat h)
+unfolding obeyed
+repeated {v} h {n} {c} p q e =
+    rw (e, ← p, ← q) (record { meaning = as_shown (host_characters n v c) (repeat_attrs n v c) (repeat_silent n v c); sendable = tt })
   where
     as_shown : (e : Effect) → e.view.attrs ≡ v.attrs → e.reply ≡ []
         → record { view = with_attrs e.view v.attrs; changes = e.changes; marking = e.marking; reply = []; executed = [] } ≡ shown e
@@ -134,49 +136,48 @@ repeated {v} {n} {c} = record { meaning = as_shown (host_characters n v c) (repe
 
 -- ---- ERRORs
 
--- a decision by the fault that the view shows
-pub judged_by : {v : View} {d : Decision} {c : Command} {n : ℕ} {g : Governor} (held : Held) {fault : Fault} → fault ≡ fault_of v c n g held
-    → ((r : Row) → r.command ≡ c → Decides v d (λ w. judged w r held fault)) → Judges v d c n g held
-judged_by {v} held e by r m p q =
-    recast (by r m) (ap (λ (x : Fault). shown (judged v r held x)) (e ∙ rw (m, p, q)))
+-- what the row says, by its parts
+row_says : {k : Code} (r : Row) → Some k ≡ meaning (Some r) → k ≡ record { command = r.command; parameters = r.parameters; governor = r.governor }
+unfolding meaning
+row_says r e = cc
 
--- a fault but the first and MOVE CURSOR's is an ERROR, and nothing changes
-pub errs : {v : View} {d : Decision} (r : Row) (h : Held) (fault : Fault) → OneOf (1 ∷ 2 ∷ 4 ∷ 5 ∷ 6 ∷ 7 ∷ []) (tag_of the_type fault)
-    → Decides v d (λ w. erring w (code_in h) fault) → Decides v d (λ w. judged w r h fault)
+-- a decision by the fault that the view shows
+pub judged_by : {v : View} {d : Decision} {k : Code} (held : Held) {fault : Result ⊤ Fault}
+    → fault ≡ fault_of v k.command k.parameters k.governor held
+    → ((r : Row) → r.command ≡ k.command → Decides v d (λ w. judged w r held fault)) → Judges v d k held
+judged_by {v} held e by r m =
+    recast (by r (rw (row_says r m))) (ap (λ (x : Result ⊤ Fault). shown (judged v r held x)) (e ∙ rw (row_says r m)))
+
+-- a fault but MOVE CURSOR's is an ERROR, and nothing changes
+pub errs : {v : View} {d : Decision} (r : Row) (h : Held) (fault : Fault) → (fault ≡ OffScreen → ⊥)
+    → Decides v d (λ w. erring w (code_in h) fault) → Decides v d (λ w. judged w r h (Err fault))
 unfolding judged
-errs r h NoFault o e = absurd (miss (1 ∷ 2 ∷ 4 ∷ 5 ∷ 6 ∷ 7 ∷ []) 0 tt o)
 errs r h NotAgreed o e = e
 errs r h UnknownCode o e = e
-errs r h OffScreen o e = absurd (miss (1 ∷ 2 ∷ 4 ∷ 5 ∷ 6 ∷ 7 ∷ []) 3 tt o)
+errs r h OffScreen o e = absurd (o refl)
 errs r h TooManyParameters o e = e
 errs r h TooFewParameters o e = e
 errs r h BadValue o e = e
 errs r h BadMap o e = e
 
--- a code is not both known and unknown
-unknown : {c : Command} {n : ℕ} {g : Governor} → Known c n g ≡ Unknown → ⊥
-unknown e = let same : ◌≡◌ {A = ℕ} 0 1 = ap is_known e in omega arith
-  where
-    is_known : Code → ℕ
-    is_known (Known c n g) = 0
-    is_known Unknown = 1
-
 -- a decision by what the list says of the code
-pub looked_known : {v : View} {d : Decision} (held : Held) {c : Command} {n : ℕ} {g : Governor} (l : Listed) → Known c n g ≡ meaning l
-    → Judges v d c n g held → Decides v d (λ w. looked w l held)
-unfolding meaning looked
-looked_known held {c} {n} {g} (listed r) e by =
-    let same : r.command ≡ c = cc in
-    let count : r.parameters ≡ n = cc in
-    let governs : r.governor ≡ g = cc in
-    by r same count governs
-looked_known held unlisted e by = absurd (unknown e)
+module _ {v : View} {d : Decision} (h : Held) {e : Edition} {n : ℕ} (some : h.count ≡ 0 → ⊥) (at : e ≡ v.frame.edition) (is : n ≡ code_in h) where
+  pub looked_known : {k : Code} → Some k ≡ meaning (row_of e n) → Judges v d k h → Decides v d (λ w. subcommand w h)
+  unfolding subcommand meaning looked
+  looked_known {k} m by = by_row (row_of v.frame.edition (code_in h)) refl (m ∙ rw (at, is))
+    where
+      by_row : (l : Option Row) → row_of v.frame.edition (code_in h) ≡ l → Some k ≡ meaning l → Decides v d (λ w. subcommand w h)
+      by_row (Some r) q m = recast (by r m) (rw (ne_eqb _ _ some, q))
+      by_row None q m = cc
 
-pub looked_unknown : {v : View} {d : Decision} (held : Held) (l : Listed) → Unknown ≡ meaning l
-    → Decides v d (λ w. erring w (code_in held) UnknownCode) → Decides v d (λ w. looked w l held)
-unfolding meaning looked
-looked_unknown held (listed r) e by = absurd (unknown (sym e))
-looked_unknown held unlisted e by = by
+  pub looked_unknown : None ≡ meaning (row_of e n) → d ≡ decision v.frame Nothing (Three (code_for v.frame.edition error) n (fault_number UnknownCode))
+      → Decides v d (λ w. subcommand w h)
+  unfolding subcommand meaning looked
+  looked_unknown m by = by_row (row_of v.frame.edition (code_in h)) refl (m ∙ rw (at, is))
+    where
+      by_row : (l : Option Row) → row_of v.frame.edition (code_in h) ≡ l → None ≡ meaning l → Decides v d (λ w. subcommand w h)
+      by_row (Some r) q m = cc
+      by_row None q m = decides by tt (rw (ne_eqb _ _ some, q, is))
 
 -- where a destination is on the screen
 pub ruleset destinations = (origin_lt, home_lt, back_tab_lt, first_field_lt, next_field_lt, previous_open_lt)

@@ -1,7 +1,7 @@
 -- Laws of writing a character: by its fate.
-use Rattle.std.specs.Prelude.{if◌then◌else◌}
+use Rattle.std.specs.Prelude.{Ok, Err}
 use mathlib.Core.Path.{◌≡◌, refl, ◌∙◌}
-use mathlib.Core.Bool.{Bool, true, false}
+use mathlib.Core.Bool.{false}
 use mathlib.Core.List.{[], ◌∷◌}
 use Prim.Native.Nat.{ℕ}
 use borrow.Author.Tests.{lt-ltb, eq-eqb}
@@ -10,7 +10,6 @@ use Rattle.screen.specs.Scans.{next_open_place}
 use Rattle.screen.specs.Classes.{takes}
 use Rattle.words.proofs.Laws.{true_or_false}
 use Rattle.rules.specs.declared.Refusal.{Refusal}
-use Rattle.rules.specs.declared.Refusal.TheVariants.{Taken}
 use Rattle.rules.specs.declared.Destination.TheVariants.{NextOpen}
 use Rattle.rules.specs.declared.Key.{Key}
 use Rattle.rules.specs.declared.Key.TheVariants.{Typed}
@@ -18,22 +17,20 @@ use Rattle.rules.specs.Session.{View, printable, cursor_cell, with_cursor}
 use Rattle.rules.specs.Effect.{Effect, put, changing, quiet}
 use Rattle.rules.specs.Cursor.{cursor_guarded, destination}
 use Rattle.rules.specs.Telnet.{host_character, host_data}
-use Rattle.rules.specs.Refusal.{is_taken, verdict}
+use Rattle.rules.specs.Refusal.{verdict}
 use Rattle.rules.specs.Key.{pressed, key_tests, needs_of, class_allows}
 use Rattle.decide.specs.declared.text.Writer.TheVariants.{Host, Operator}
 use Rattle.decide.specs.declared.text.Fate.{Fate}
 use Rattle.decide.specs.declared.text.Fate.TheVariants.{Written, Dropped, RefusedByGuard, RefusedByClass}
-use Rattle.decide.specs.declared.text.Writing.{Writing}
 use Rattle.decide.specs.declared.decision.Edit.TheVariants.{Nothing}
 use Rattle.decide.specs.declared.decision.Say.TheVariants.{Silent}
-use Rattle.decide.specs.declared.decision.Format.TheVariants.{Keep}
 use Rattle.decide.specs.declared.decision.Decision.{Decision}
 use Rattle.decide.specs.Decision.{Decides}
 use Rattle.decide.specs.Inner.Decision.{decision}
 use Rattle.decide.specs.Inner.Writing.{if_written, fate_refusal}
 use Rattle.decide.proofs.DecideLaws.{decides, recast}
 use Rattle.command.specs.Inner.Frame.{Fits}
-use Rattle.decide.specs.Writing.{fate_of, place_after, after_fate, control_of, pressed_if_taken, Writes}
+use Rattle.decide.specs.Writing.{fate_of, place_after, after_fate, control_of, pressed_if_taken}
 
 -- a host character goes by its fate
 pub by_fate : (v : View) (c : ℕ)
@@ -46,17 +43,6 @@ pub refused_by_fate : (v : View) (c : ℕ) → fate_refusal (fate_of Operator v 
 unfolding fate_of verdict key_tests needs_of
 refused_by_fate v c =
     true_or_false (cursor_guarded v) (λ g. rw g) (λ g. true_or_false (class_allows v (λ attr. takes attr c)) (λ a. rw (g, a)) (λ a. rw (g, a)))
-
--- a typed character that is not refused is written
-only_written : (guarded allowed : Bool)
-    → let fate = if guarded then RefusedByGuard else if allowed then Written else RefusedByClass in fate_refusal fate ≡ Taken → fate ≡ Written
-only_written true allowed e = cc
-only_written false true e = refl
-only_written false false e = cc
-
-pub typed_is_written : (v : View) (c : ℕ) → verdict (key_tests v (Typed c)) ≡ Taken → fate_of Operator v c ≡ Written
-unfolding fate_of
-typed_is_written v c e = only_written (cursor_guarded v) (class_allows v (λ attr. takes attr c)) (refused_by_fate v c ∙ e)
 
 -- what the other arm of a match on Written knows
 pub not_written : (f : Fate) → (f ≡ Written → ⊥)
@@ -75,16 +61,10 @@ not_moved RefusedByGuard h here next = refl
 not_moved RefusedByClass h here next = refl
 
 -- where the code's scan for the next open place goes, with the cursor on the screen
-pub next_open_is : {v : View} → Fits v →
-    let f = v.frame in next_open_place f.suppressed v.attrs f.width f.height f.cursor ≡ destination v NextOpen
+pub next_open_is : {v : View} {p : Place} → Fits v →
+    let f = v.frame in p ≡ next_open_place f.suppressed v.attrs f.width f.height f.cursor → p ≡ destination v NextOpen
 unfolding next_open_place destination
-next_open_is h = rw (lt-ltb _ _ h.on.x, lt-ltb _ _ h.on.y, eq-eqb _ _ h.long)
-
--- a typed character that is not refused is written where the rule for its key says
-pub typed : {v : View} {c : ℕ} {w : Writing} → Writes v Operator c w → verdict (key_tests v (Typed c)) ≡ Taken
-    → w.cursor ≡ place_after Operator v
-unfolding after_fate
-typed {v} {c} one e = one.cursor ∙ rw (one.fate, typed_is_written v c e)
+next_open_is h e = e ∙ rw (lt-ltb _ _ h.on.x, lt-ltb _ _ h.on.y, eq-eqb _ _ h.long)
 
 -- host data that is no character
 pub control_is : (v : View) (b : ℕ) → printable b ≡ false → host_data v b ≡ control_of v b
@@ -93,12 +73,13 @@ control_is v b e = rw e
 
 -- ---- a key that is refused, or not
 
-module _ {v : View} (k : Key) {why : Refusal} (e : why ≡ verdict (key_tests v k)) {d : Decision} where
-  pub pressed_not : is_taken why ≡ false → d ≡ decision v.frame Nothing Silent Keep → Decides v d (λ v. pressed_if_taken v k)
-  pressed_not h q = decides q tt (rw (← e, h))
+module _ {v : View} (k : Key) {d : Decision} where
+  pub pressed_not : {why : Refusal} → Err why ≡ verdict (key_tests v k) → d ≡ decision v.frame Nothing Silent
+      → Decides v d (λ v. pressed_if_taken v k)
+  pressed_not e q = decides q tt (rw (← e))
 
-  pub pressed_taken : why ≡ Taken → Decides v d (λ v. pressed v k) → Decides v d (λ v. pressed_if_taken v k)
-  pressed_taken h by = recast by (rw (← e, h))
+  pub pressed_taken : Ok tt ≡ verdict (key_tests v k) → Decides v d (λ v. pressed v k) → Decides v d (λ v. pressed_if_taken v k)
+  pressed_taken e by = recast by (rw (← e))
 
-  pub pressed_was : why ≡ Taken → Decides v d (λ v. pressed_if_taken v k) → Decides v d (λ v. pressed v k)
-  pressed_was h by = recast by (rw (← e, h))
+  pub pressed_was : Ok tt ≡ verdict (key_tests v k) → Decides v d (λ v. pressed_if_taken v k) → Decides v d (λ v. pressed v k)
+  pressed_was e by = recast by (rw (← e))

@@ -1,5 +1,5 @@
 -- What a decision means: the effect of the rules that it stands for.
-use Rattle.std.specs.Prelude.{◌≡◌, ◌&&◌, List, [], ◌∷◌, ℕ, ◌+◌, ◌*◌, ◌≤◌, eqb, length, if◌then◌else◌}
+use Rattle.std.specs.Prelude.{◌≡◌, ◌&&◌, List, [], ◌∷◌, ℕ, ◌+◌, ◌*◌, ◌≤◌, eqb, length, if◌then◌else◌, Option, Some, None}
 use Rattle.edit.specs.Edits.{filled}
 use Rattle.rules.specs.declared.Held.{Held}
 use Rattle.rules.specs.declared.Edition.{Edition}
@@ -13,8 +13,7 @@ use Rattle.decide.specs.declared.decision.Edit.{Edit}
 use Rattle.decide.specs.declared.decision.Edit.TheVariants.{Nothing, Put, Erase, Shift, Repeat}
 use Rattle.decide.specs.declared.decision.Say.{Say}
 use Rattle.decide.specs.declared.decision.Say.TheVariants.{Silent, Negotiation, Two, Three, Preface, Text, Fields, Modified}
-use Rattle.decide.specs.declared.decision.Format.{Format}
-use Rattle.decide.specs.declared.decision.Format.TheVariants.{Keep, Fill}
+use Rattle.decide.specs.declared.decision.Fill.{Fill}
 use Rattle.decide.specs.declared.decision.Decision.{Decision}
 
 -- what becomes of the characters, where the cursor goes with them, and which cells are marked
@@ -37,9 +36,9 @@ parts_of e attrs (Fields p) = bytes (preface_bytes e p) ∷ without_first (field
 parts_of e attrs (Modified width) = modified_texts e width attrs 0 (length attrs)
 
 -- what becomes of the attribute bytes
-abbrev pub attrs_of : Format → List ℕ → List ℕ
-attrs_of Keep attrs = attrs
-attrs_of (Fill from end attr) attrs = filled from end attr attrs
+abbrev pub attrs_of : Option Fill → List ℕ → List ℕ
+attrs_of None attrs = attrs
+attrs_of (Some f) attrs = filled f.from f.end f.attr attrs
 
 abbrev pub meant : List ℕ → Decision → Effect
 meant attrs d =

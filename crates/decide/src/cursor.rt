@@ -1,7 +1,7 @@
 // Where the cursor goes.
-ghost use Rattle.std.specs.Prelude.{◌≡◌, ◌+◌, ◌*◌, ◌-◌, ◌%◌, ◌<◌, min};
+ghost use Rattle.std.specs.Prelude.{◌≡◌, ◌+◌, ◌-◌, ◌%◌, ◌<◌};
 ghost use Rattle.screen.specs.Cells.{place, place_of};
-ghost use Rattle.rules.specs.Session.{placed};
+ghost use Rattle.rules.specs.Session.{placed, cells};
 ghost use Rattle.rules.specs.Command.{place_in};
 ghost use Rattle.rules.specs.Cursor.{
   limited,
@@ -18,10 +18,9 @@ ghost use Rattle.rules.specs.Cursor.{
   previous_open_cell,
   destination,
 };
-ghost use Rattle.command.specs.Frame.{seen};
-ghost use Rattle.command.specs.Inner.Frame.{OnScreen, Fits};
 
-use command::frame::{cursor_cell, moved};
+use crate::view::View;
+use command::frame::moved;
 use command::held::place_parameters;
 use rules::{Destination, Frame, Held};
 use screen::cell::{Column, Line, Place, place_of};
@@ -37,89 +36,11 @@ fn at(x: u8, y: u8) -> Place
     }
 }
 
-// The place of a cell of the screen.
-#[tactic(auto, using(screen::proofs::CellLaws::place_whole))]
-pub(crate) fn place_on(frame: Frame, cell: usize) -> Place
-    requires { cell < frame.height * frame.width }
-    ensures { result ≡ place_of frame.width cell }
-{
-    place_of(frame.width, cell)
-}
-
-// The greatest below a size, where n is not below it.
-fn limit(n: u8, size: u8) -> u8
-    requires { 0 < size }
-    ensures { result ≡ min n (size - 1) }
-{
-    if n < size { n } else { size - 1 }
-}
-
-// 5: a place that is not on the screen is limited to it.
-pub(crate) fn limited(frame: Frame, held: Held) -> Frame
-    requires { OnScreen frame }
-    ensures { result ≡ placed frame (limited frame (place_in held)) }
-{
-    let place = place_parameters(held);
-    moved(
-        frame,
-        at(
-            limit(place.x.0, frame.width),
-            limit(place.y.0, frame.height),
-        ),
-    )
-}
-
-// 6: past the last line it goes on from the first.
-pub(crate) fn skipped_to_line(frame: Frame, y: u8) -> Frame
-    requires { OnScreen frame }
-    ensures { result ≡ placed frame (skipped_to_line frame y) }
-{
-    moved(frame, at(frame.cursor.x.0, y % frame.height))
-}
-
-// 7: the lines that a skip past the line's end goes down.
-#[tactic(auto, unfolding(rules::specs::Cursor::lines_down))]
-fn lines_down(frame: Frame, x: u8) -> u8
-    requires { OnScreen frame }
-    ensures { result ≡ lines_down frame x }
-{
-    x / frame.height
-}
-
-// So many lines below a line, around the screen.
-fn line_around(frame: Frame, y: u8, down: u8) -> u8
-    requires { OnScreen frame }
-    ensures { result ≡ (y + down) % frame.height }
-{
-    ((y as usize + down as usize) % frame.height as usize) as u8
-}
-
-// 7: past the line's end both go round.
-#[tactic(auto, unfolding(rules::specs::Cursor::skipped_to_char))]
-pub(crate) fn skipped_to_char(frame: Frame, x: u8) -> Frame
-    requires { OnScreen frame }
-    ensures { result ≡ placed frame (skipped_to_char frame x) }
-{
-    let y = frame.cursor.y.0;
-    if x < frame.width {
-        return moved(frame, at(x, y));
-    }
-    let down = lines_down(frame, x);
-    moved(frame, at(x % frame.width, line_around(frame, y, down)))
-}
-
-// 0 stays 0.
-fn one_less(n: u8) -> u8
-    ensures { result ≡ n - 1 }
-{
-    if n == 0 { 0 } else { n - 1 }
-}
-
 // The greatest below the limit stays.
 fn one_more(n: u8, limit: u8) -> u8
     ensures { result ≡ one_more n limit }
 {
-    if n as usize + 1 < limit as usize {
+    if n < limit.saturating_sub(1) {
         n + 1
     } else {
         n
@@ -147,7 +68,7 @@ pub(crate) fn down(frame: Frame) -> Place
 pub(crate) fn left(frame: Frame) -> Place
     ensures { result ≡ place (frame.cursor.x.0 - 1) frame.cursor.y.0 }
 {
-    at(one_less(frame.cursor.x.0), frame.cursor.y.0)
+    at(frame.cursor.x.0.saturating_sub(1), frame.cursor.y.0)
 }
 
 // At the last cell the cursor stays.
@@ -157,98 +78,165 @@ pub(crate) fn next_cell(frame: Frame) -> Place
 {
     let x = frame.cursor.x.0;
     let y = frame.cursor.y.0;
-    if x as usize + 1 < frame.width as usize {
+    if x < frame.width.saturating_sub(1) {
         return at(x + 1, y);
     }
-    if y as usize + 1 < frame.height as usize {
+    if y < frame.height.saturating_sub(1) {
         return at(0, y + 1);
     }
     frame.cursor
 }
 
-#[tactic(auto, unfolding(screen::specs::Scans::is_target, rules::specs::Cursor::home_cell))]
-fn home_cell(frame: Frame, attrs: &[u8]) -> usize
-    ensures { result ≡ home_cell (seen frame attrs.now) }
-{
-    if frame.suppressed {
-        return 0;
+impl View<'_> {
+    // The place of a cell of the screen.
+    #[tactic(auto, using(screen::proofs::CellLaws::place_whole))]
+    pub(crate) fn place_on(&self, cell: usize) -> Place
+        requires { cell < cells self.now.frame }
+        ensures { result ≡ place_of self.now.frame.width cell }
+    {
+        place_of(self.frame.width, cell)
     }
-    first(attrs, Target::Open(false), 0, 0)
-}
 
-#[tactic(auto, unfolding(screen::specs::Scans::is_target, rules::specs::Cursor::back_tab_cell))]
-fn back_tab_cell(frame: Frame, attrs: &[u8]) -> usize
-    ensures { result ≡ back_tab_cell (seen frame attrs.now) }
-{
-    if frame.suppressed {
-        return 0;
+    // 5: a place that is not on the screen is limited to it.
+    pub(crate) fn limited(&self, held: Held) -> Frame
+        ensures { result ≡ placed self.now.frame (limited self.now.frame (place_in held)) }
+    {
+        let frame = self.frame;
+        let place = place_parameters(held);
+        moved(
+            frame,
+            at(
+                place.x.0.min(frame.width - 1),
+                place.y.0.min(frame.height - 1),
+            ),
+        )
     }
-    last(attrs, Target::UnprotectedStart, cursor_cell(frame), 0)
-}
 
-#[tactic(auto, unfolding(screen::specs::Scans::is_target, rules::specs::Cursor::first_field_cell, rules::specs::Cursor::next_field_cell))]
-fn first_field_cell(frame: Frame, attrs: &[u8], none: usize) -> usize
-    ensures { result ≡ first_field_cell (seen frame attrs.now) none }
-{
-    first(attrs, Target::UnprotectedStart, 0, none)
-}
-
-#[tactic(auto, using(screen::proofs::CellLaws::byte_product), unfolding(screen::specs::Scans::is_target, rules::specs::Cursor::first_field_cell, rules::specs::Cursor::next_field_cell))]
-fn next_field_cell(frame: Frame, attrs: &[u8]) -> usize
-    ensures { result ≡ next_field_cell (seen frame attrs.now) }
-{
-    let cell = cursor_cell(frame);
-    first_around(attrs, Target::UnprotectedStart, cell + 1, cell)
-}
-
-#[tactic(auto, unfolding(screen::specs::Scans::is_target, rules::specs::Cursor::previous_open_cell))]
-fn previous_open_cell(frame: Frame, attrs: &[u8]) -> usize
-    ensures { result ≡ previous_open_cell (seen frame attrs.now) }
-{
-    let cell = cursor_cell(frame);
-    last(attrs, Target::Open(frame.suppressed), cell, cell)
-}
-
-// After a typed character.
-#[tactic(auto, using(crate::proofs::WriteLaws::next_open_is))]
-pub(crate) fn next_open_place(frame: Frame, attrs: &[u8]) -> Place
-    requires { Fits (seen frame attrs.now) }
-    ensures { result ≡ destination (seen frame attrs.now) Destination.NextOpen }
-{
-    let cursor = frame.cursor;
-    next_open(frame.suppressed, attrs, frame.width, frame.height, cursor)
-}
-
-// Any of them.
-#[tactic(auto, using(crate::proofs::ObeyLaws::destinations), unfolding(rules::specs::Cursor::destination))]
-pub(crate) fn destination(frame: Frame, attrs: &[u8], to: Destination) -> Place
-    requires { Fits (seen frame attrs.now) }
-    ensures { result ≡ destination (seen frame attrs.now) to }
-{
-    let x = frame.cursor.x.0;
-    let y = frame.cursor.y.0;
-    match to {
-        Destination::Up => at(x, one_less(y)),
-        Destination::Down => down(frame),
-        Destination::Left => left(frame),
-        Destination::Right => at(one_more(x, frame.width), y),
-        Destination::Corner => at(0, 0),
-        Destination::LineStart => start_of_line(frame),
-        Destination::NextLine => at(0, line_below(frame)),
-        Destination::NextCell => next_cell(frame),
-        Destination::Home => place_on(frame, home_cell(frame, attrs)),
-        Destination::ReverseTab => place_on(frame, back_tab_cell(frame, attrs)),
-        Destination::FirstField => place_on(frame, first_field_cell(frame, attrs, 0)),
-        Destination::NextField => place_on(frame, next_field_cell(frame, attrs)),
-        Destination::NextOpen => next_open_place(frame, attrs),
-        Destination::PreviousOpen => place_on(frame, previous_open_cell(frame, attrs)),
+    // 6: past the last line it goes on from the first.
+    pub(crate) fn skipped_to_line(&self, y: u8) -> Frame
+        ensures { result ≡ placed self.now.frame (skipped_to_line self.now.frame y) }
+    {
+        let frame = self.frame;
+        moved(frame, at(frame.cursor.x.0, y % frame.height))
     }
-}
 
-// The frame with the cursor sent there.
-pub(crate) fn sent_to(frame: Frame, attrs: &[u8], to: Destination) -> Frame
-    requires { Fits (seen frame attrs.now) }
-    ensures { result ≡ placed frame (destination (seen frame attrs.now) to) }
-{
-    moved(frame, destination(frame, attrs, to))
+    // 7: the lines that a skip past the line's end goes down.
+    #[tactic(auto, unfolding(rules::specs::Cursor::lines_down))]
+    fn lines_down(&self, x: u8) -> u8
+        ensures { result ≡ lines_down self.now.frame x }
+    {
+        x / self.frame.height
+    }
+
+    // So many lines below the cursor's, around the screen.
+    fn line_around(&self, down: u8) -> u8
+        ensures { result ≡ (self.now.frame.cursor.y.0 + down) % self.now.frame.height }
+    {
+        let frame = self.frame;
+        ((frame.cursor.y.0 as u16 + down as u16) % frame.height as u16) as u8
+    }
+
+    // 7: past the line's end both go round.
+    #[tactic(auto, unfolding(rules::specs::Cursor::skipped_to_char))]
+    pub(crate) fn skipped_to_char(&self, x: u8) -> Frame
+        ensures { result ≡ placed self.now.frame (skipped_to_char self.now.frame x) }
+    {
+        let frame = self.frame;
+        if x < frame.width {
+            return moved(frame, at(x, frame.cursor.y.0));
+        }
+        let down = self.lines_down(x);
+        moved(frame, at(x % frame.width, self.line_around(down)))
+    }
+
+    #[tactic(auto, unfolding(screen::specs::Scans::is_target, rules::specs::Cursor::home_cell))]
+    fn home_cell(&self) -> usize
+        ensures { result ≡ home_cell self.now }
+    {
+        if self.frame.suppressed {
+            return 0;
+        }
+        first(self.attrs, Target::Open(false), 0, 0)
+    }
+
+    #[tactic(auto, unfolding(screen::specs::Scans::is_target, rules::specs::Cursor::back_tab_cell))]
+    fn back_tab_cell(&self) -> usize
+        ensures { result ≡ back_tab_cell self.now }
+    {
+        if self.frame.suppressed {
+            return 0;
+        }
+        last(self.attrs, Target::UnprotectedStart, self.cursor_cell(), 0)
+    }
+
+    #[tactic(auto, unfolding(screen::specs::Scans::is_target, rules::specs::Cursor::first_field_cell))]
+    fn first_field_cell(&self, none: usize) -> usize
+        ensures { result ≡ first_field_cell self.now none }
+    {
+        first(self.attrs, Target::UnprotectedStart, 0, none)
+    }
+
+    #[tactic(auto, using(screen::proofs::CellLaws::byte_product), unfolding(screen::specs::Scans::is_target, rules::specs::Cursor::first_field_cell, rules::specs::Cursor::next_field_cell))]
+    fn next_field_cell(&self) -> usize
+        ensures { result ≡ next_field_cell self.now }
+    {
+        let cell = self.cursor_cell();
+        first_around(self.attrs, Target::UnprotectedStart, cell + 1, cell)
+    }
+
+    #[tactic(auto, unfolding(screen::specs::Scans::is_target, rules::specs::Cursor::previous_open_cell))]
+    fn previous_open_cell(&self) -> usize
+        ensures { result ≡ previous_open_cell self.now }
+    {
+        let cell = self.cursor_cell();
+        last(self.attrs, Target::Open(self.frame.suppressed), cell, cell)
+    }
+
+    // After a typed character.
+    #[tactic(auto, using(crate::proofs::WriteLaws::next_open_is))]
+    fn next_open_place(&self) -> Place
+        ensures { result ≡ destination self.now Destination.NextOpen }
+    {
+        let frame = self.frame;
+        next_open(
+            frame.suppressed,
+            self.attrs,
+            frame.width,
+            frame.height,
+            frame.cursor,
+        )
+    }
+
+    // Any of them.
+    #[tactic(auto, using(crate::proofs::ObeyLaws::destinations), unfolding(rules::specs::Cursor::destination))]
+    pub(crate) fn destination(&self, to: Destination) -> Place
+        ensures { result ≡ destination self.now to }
+    {
+        let frame = self.frame;
+        let x = frame.cursor.x.0;
+        let y = frame.cursor.y.0;
+        match to {
+            Destination::Up => at(x, y.saturating_sub(1)),
+            Destination::Down => down(frame),
+            Destination::Left => left(frame),
+            Destination::Right => at(one_more(x, frame.width), y),
+            Destination::Corner => at(0, 0),
+            Destination::LineStart => start_of_line(frame),
+            Destination::NextLine => at(0, line_below(frame)),
+            Destination::NextCell => next_cell(frame),
+            Destination::Home => self.place_on(self.home_cell()),
+            Destination::ReverseTab => self.place_on(self.back_tab_cell()),
+            Destination::FirstField => self.place_on(self.first_field_cell(0)),
+            Destination::NextField => self.place_on(self.next_field_cell()),
+            Destination::NextOpen => self.next_open_place(),
+            Destination::PreviousOpen => self.place_on(self.previous_open_cell()),
+        }
+    }
+
+    // The frame with the cursor sent there.
+    pub(crate) fn sent_to(&self, to: Destination) -> Frame
+        ensures { result ≡ placed self.now.frame (destination self.now to) }
+    {
+        moved(self.frame, self.destination(to))
+    }
 }

@@ -67,11 +67,12 @@ pub enum Say {
     },
 }
 
-// What becomes of the attribute bytes.
+// The cells of a range take this attribute byte.
 #[derive(Clone, Copy)]
-pub enum Format {
-    Keep,
-    Fill { from: usize, end: usize, attr: u8 },
+pub struct Fill {
+    pub from: usize,
+    pub end: usize,
+    pub attr: u8,
 }
 
 #[derive(Clone, Copy)]
@@ -79,43 +80,40 @@ pub struct Decision {
     pub frame: Frame,
     pub edit: Edit,
     pub say: Say,
-    pub format: Format,
+    // what becomes of the attribute bytes
+    pub format: Option<Fill>,
     // all marks are cleared
     pub clear: bool,
 }
 
-pub(crate) fn quiet(frame: Frame) -> Decision
-    ensures { result ≡ decision frame Edit.Nothing Say.Silent Format.Keep }
-{
-    Decision {
-        frame: frame,
-        edit: Edit::Nothing,
-        say: Say::Silent,
-        format: Format::Keep,
-        clear: false,
+impl Decision {
+    pub(crate) fn quiet(frame: Frame) -> Self
+        ensures { result ≡ decision frame Edit.Nothing Say.Silent }
+    {
+        Decision {
+            frame,
+            edit: Edit::Nothing,
+            say: Say::Silent,
+            format: None,
+            clear: false,
+        }
     }
-}
 
-pub(crate) fn saying(frame: Frame, say: Say) -> Decision
-    ensures { result ≡ decision frame Edit.Nothing say Format.Keep }
-{
-    Decision {
-        frame: frame,
-        edit: Edit::Nothing,
-        say: say,
-        format: Format::Keep,
-        clear: false,
+    pub(crate) fn saying(frame: Frame, say: Say) -> Self
+        ensures { result ≡ decision frame Edit.Nothing say }
+    {
+        Decision {
+            say,
+            ..Decision::quiet(frame)
+        }
     }
-}
 
-pub(crate) fn editing(frame: Frame, edit: Edit) -> Decision
-    ensures { result ≡ decision frame edit Say.Silent Format.Keep }
-{
-    Decision {
-        frame: frame,
-        edit: edit,
-        say: Say::Silent,
-        format: Format::Keep,
-        clear: false,
+    pub(crate) fn editing(frame: Frame, edit: Edit) -> Self
+        ensures { result ≡ decision frame edit Say.Silent }
+    {
+        Decision {
+            edit,
+            ..Decision::quiet(frame)
+        }
     }
 }

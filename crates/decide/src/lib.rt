@@ -9,3 +9,4 @@ pub mod negotiate;
 pub mod obey;
 pub mod text;
 mod transmit;
+mod view;

@@ -1,11 +1,11 @@
 // Negotiation: options 20 and 30 are switched, every other is declined.
-ghost use Rattle.std.specs.Prelude.{◌≡◌, true, false, List, ℕ};
+ghost use Rattle.std.specs.Prelude.{◌≡◌, List, ℕ};
 ghost use Rattle.rules.specs.Session.{view};
 ghost use Rattle.rules.specs.Telnet.{option_of, is_on, accepts, turned, negotiated};
 ghost use Rattle.decide.specs.Decision.{Decides};
 ghost use Rattle.decide.specs.Inner.Decision.{decision};
 
-use crate::decision::{Decision, Edit, Format, Say, quiet, saying};
+use crate::decision::{Decision, Edit, Say};
 use command::facility::no_maps;
 use command::frame::{switched, with_received, with_x3};
 use command::number::{DET, X3};
@@ -13,26 +13,20 @@ use rules::{Frame, TelnetOption};
 use telnet::Verb;
 
 fn answered(frame: Frame, verb: Verb, option: u8) -> Decision
-    ensures { result ≡ decision frame Edit.Nothing (Say.Negotiation verb option) Format.Keep }
+    ensures { result ≡ decision frame Edit.Nothing (Say.Negotiation verb option) }
 {
-    saying(
-        frame,
-        Say::Negotiation {
-            verb: verb,
-            option: option,
-        },
-    )
+    Decision::saying(frame, Say::Negotiation { verb, option })
 }
 
 // The options that the terminal has.
 #[tactic(auto, unfolding(rules::specs::Telnet::option_of))]
-fn option_of(option: u8) -> TelnetOption
+fn option_of(option: u8) -> Option<TelnetOption>
     ensures { result ≡ option_of option }
 {
     match option {
-        DET => TelnetOption::Det,
-        X3 => TelnetOption::X3,
-        _ => TelnetOption::Other,
+        DET => Some(TelnetOption::Det),
+        X3 => Some(TelnetOption::X3),
+        _ => None,
     }
 }
 
@@ -43,7 +37,6 @@ fn is_on(frame: Frame, option: TelnetOption) -> bool
     match option {
         TelnetOption::Det => frame.det,
         TelnetOption::X3 => frame.x3,
-        TelnetOption::Other => false,
     }
 }
 
@@ -55,30 +48,18 @@ fn is_accepted(frame: Frame, option: TelnetOption) -> bool
     match option {
         TelnetOption::Det => true,
         TelnetOption::X3 => 37 <= frame.height as usize * frame.width as usize,
-        TelnetOption::Other => false,
     }
 }
 
+// Switched on or off. With DET off, protection is in effect again, and nothing is agreed.
 #[tactic(auto, unfolding(rules::specs::Telnet::turned))]
-fn turned_on(frame: Frame, option: TelnetOption) -> Frame
-    ensures { result ≡ turned frame option true }
+fn turned(frame: Frame, option: TelnetOption, on: bool) -> Frame
+    ensures { result ≡ turned frame option on }
 {
     match option {
-        TelnetOption::Det => switched(frame, true, frame.suppressed),
-        TelnetOption::X3 => with_x3(frame, true),
-        TelnetOption::Other => frame,
-    }
-}
-
-// With DET off, protection is in effect again, and nothing is agreed.
-#[tactic(auto, unfolding(rules::specs::Telnet::turned))]
-fn turned_off(frame: Frame, option: TelnetOption) -> Frame
-    ensures { result ≡ turned frame option false }
-{
-    match option {
+        TelnetOption::Det if on => switched(frame, true, frame.suppressed),
         TelnetOption::Det => with_received(switched(frame, false, false), no_maps()),
-        TelnetOption::X3 => with_x3(frame, false),
-        TelnetOption::Other => frame,
+        TelnetOption::X3 => with_x3(frame, on),
     }
 }
 
@@ -86,14 +67,14 @@ fn turned_off(frame: Frame, option: TelnetOption) -> Frame
 fn asked_to(frame: Frame, option: u8) -> Decision
     ensures { (attrs : List ℕ) → Decides (view frame attrs) result (λ v. negotiated v Verb.Do option) }
 {
-    let known = option_of(option);
-    let on = is_on(frame, known);
-    if on {
-        return quiet(frame);
+    let Some(known) = option_of(option) else {
+        return answered(frame, Verb::Wont, option);
+    };
+    if is_on(frame, known) {
+        return Decision::quiet(frame);
     }
-    let accepted = is_accepted(frame, known);
-    if accepted {
-        return answered(turned_on(frame, known), Verb::Will, option);
+    if is_accepted(frame, known) {
+        return answered(turned(frame, known, true), Verb::Will, option);
     }
     answered(frame, Verb::Wont, option)
 }
@@ -102,12 +83,14 @@ fn asked_to(frame: Frame, option: u8) -> Decision
 fn asked_not_to(frame: Frame, option: u8) -> Decision
     ensures { (attrs : List ℕ) → Decides (view frame attrs) result (λ v. negotiated v Verb.Dont option) }
 {
-    let known = option_of(option);
-    let on = is_on(frame, known);
-    if on {
-        return answered(turned_off(frame, known), Verb::Wont, option);
+    match option_of(option) {
+        Some(known) if is_on(frame, known) => answered(
+            turned(frame, known, false),
+            Verb::Wont,
+            option,
+        ),
+        _ => Decision::quiet(frame),
     }
-    quiet(frame)
 }
 
 #[tactic(auto, using(crate::proofs::DecideLaws::decides), unfolding(rules::specs::Telnet::negotiated))]
@@ -118,6 +101,6 @@ pub fn negotiate(frame: Frame, verb: Verb, option: u8) -> Decision
         Verb::Do => asked_to(frame, option),
         Verb::Dont => asked_not_to(frame, option),
         Verb::Will => answered(frame, Verb::Dont, option),
-        Verb::Wont => quiet(frame),
+        Verb::Wont => Decision::quiet(frame),
     }
 }

@@ -5,10 +5,9 @@ ghost use Rattle.rules.specs.Session.{placed, view};
 ghost use Rattle.rules.specs.Effect.{quiet};
 ghost use Rattle.rules.specs.Key.{class_allows};
 ghost use Rattle.command.specs.Frame.{seen};
-ghost use Rattle.decide.specs.Writing.{fate_of, place_after, control_of, Writes};
-ghost use Rattle.decide.specs.Inner.Writing.{Ready};
+ghost use Rattle.decide.specs.Writing.{fate_of, control_of, Writes};
 
-use crate::cursor::{down, left, next_cell, next_open_place, start_of_line};
+use crate::cursor::{down, left, next_cell, start_of_line};
 use command::frame::{cursor_cell, cursor_guarded};
 use rules::Frame;
 use screen::attribute::attribute_at;
@@ -42,75 +41,35 @@ pub struct Writing {
 fn class_allows(frame: Frame, attrs: &[u8], byte: u8) -> bool
     ensures { result ≡ class_allows (seen frame attrs.now) (λ attr. takes attr byte) }
 {
-    if frame.suppressed {
-        return true;
-    }
-    let attr = attribute_at(attrs, cursor_cell(frame));
-    takes_typed(attr, byte)
+    frame.suppressed || takes_typed(attribute_at(attrs, cursor_cell(frame)), byte)
 }
 
+// What happens to a character that is written at the cursor, from the host, by REPEAT or typed.
 #[tactic(auto, unfolding(crate::specs::Writing::fate_of))]
 pub(crate) fn judge_character(frame: Frame, attrs: &[u8], writer: Writer, byte: u8) -> Fate
     ensures { result ≡ fate_of writer (seen frame attrs.now) byte }
 {
     let guarded = cursor_guarded(frame, attrs);
     match writer {
-        Writer::Host => if guarded {
-            Fate::Dropped
-        } else {
-            Fate::Written
-        },
-        Writer::Operator => {
-            if guarded {
-                return Fate::RefusedByGuard;
-            }
-            let allowed = class_allows(frame, attrs, byte);
-            if allowed {
-                Fate::Written
-            } else {
-                Fate::RefusedByClass
-            }
-        }
-    }
-}
-
-// Where the cursor goes after a character: to the next cell, or to the next that is not guarded.
-#[tactic(auto, unfolding(rules::specs::Cursor::destination))]
-fn place_after(frame: Frame, attrs: &[u8], writer: Writer) -> Place
-    requires { Ready writer (seen frame attrs.now) }
-    ensures { result ≡ place_after writer (seen frame attrs.now) }
-{
-    match writer {
-        Writer::Host => next_cell(frame),
-        Writer::Operator => next_open_place(frame, attrs),
-    }
-}
-
-// Writes a character at the cursor, or does not, and tells which. All that write go by this: host text, REPEAT and typing.
-#[tactic(auto, using(crate::proofs::WriteLaws::not_moved), unfolding(crate::specs::Writing::after_fate))]
-pub(crate) fn write(frame: Frame, attrs: &[u8], writer: Writer, byte: u8) -> Writing
-    requires { Ready writer (seen frame attrs.now) }
-    ensures { Writes (seen frame attrs.now) writer byte result }
-{
-    let fate = judge_character(frame, attrs, writer, byte);
-    let Fate::Written = fate else {
-        let cursor = frame.cursor;
-        return Writing {
-            fate: fate,
-            cursor: cursor,
-        };
-    };
-    Writing {
-        fate: fate,
-        cursor: place_after(frame, attrs, writer),
+        Writer::Host if guarded => Fate::Dropped,
+        Writer::Host => Fate::Written,
+        Writer::Operator if guarded => Fate::RefusedByGuard,
+        Writer::Operator if class_allows(frame, attrs, byte) => Fate::Written,
+        Writer::Operator => Fate::RefusedByClass,
     }
 }
 
 // A character from the host.
+#[tactic(auto, using(crate::proofs::WriteLaws::not_moved), unfolding(crate::specs::Writing::after_fate, rules::specs::Cursor::destination))]
 pub fn write_host(frame: Frame, attrs: &[u8], byte: u8) -> Writing
     ensures { Writes (seen frame attrs.now) Writer.Host byte result }
 {
-    write(frame, attrs, Writer::Host, byte)
+    let fate = judge_character(frame, attrs, Writer::Host, byte);
+    let cursor = match fate {
+        Fate::Written => next_cell(frame),
+        _ => frame.cursor,
+    };
+    Writing { fate, cursor }
 }
 
 // Host data that is no character: CR, LF and BS move the cursor, any other byte does nothing. The cursor after it.

@@ -1,23 +1,21 @@
 -- What the private functions of the decisions promise, and what whoever applies a decision goes by.
-use Rattle.std.specs.Prelude.{◌≡◌, false, List, [], ◌∷◌, ℕ, ◌+◌}
+use Rattle.std.specs.Prelude.{◌≡◌, false, List, [], ◌∷◌, ◌+◌, Some, None}
 use Rattle.rules.specs.declared.Frame.{Frame}
 use Rattle.rules.specs.declared.Held.{Held}
-use Rattle.rules.specs.declared.Command.{Command}
-use Rattle.rules.specs.declared.Governor.{Governor}
+use Rattle.rules.specs.declared.Code.{Code}
 use Rattle.rules.specs.Session.{View}
-use Rattle.rules.specs.Command.{Row, fault_of}
+use Rattle.rules.specs.Command.{Row, meaning, fault_of}
 use Rattle.rules.specs.Effect.{Change, Marking, put, erase, shift, kept, marked}
 use Rattle.rules.specs.Subcommand.{judged}
 use Rattle.decide.specs.declared.decision.Edit.{Edit}
 use Rattle.decide.specs.declared.decision.Edit.TheVariants.{Nothing, Put, Erase, Shift, Repeat}
 use Rattle.decide.specs.declared.decision.Say.{Say}
-use Rattle.decide.specs.declared.decision.Format.{Format}
 use Rattle.decide.specs.declared.decision.Decision.{Decision}
 use Rattle.decide.specs.Decision.{edited, Decides}
 
--- one that clears no marks
-abbrev pub decision : Frame → Edit → Say → Format → Decision
-decision f edit say format = record { frame = f; edit = edit; say = say; format = format; clear = false }
+-- one that formats nothing and clears no marks
+abbrev pub decision : Frame → Edit → Say → Decision
+decision f edit say = record { frame = f; edit = edit; say = say; format = None; clear = false }
 
 -- the changes that are settled without the view: REPEAT has none
 abbrev pub changes_of : Edit → List Change
@@ -40,8 +38,7 @@ abbrev pub Once : Edit → Type 0
 Once edit =
     (v : View) → edited v edit ≡ record { view = v; changes = changes_of edit; marking = marking_of edit; reply = []; executed = [] }
 
--- what a command comes to whose row in the list has this meaning, so many parameters and this governor
-abbrev pub Judges : View → Decision → Command → ℕ → Governor → Held → Type 0
-Judges v d c n g h =
-    (r : Row) → r.command ≡ c → r.parameters ≡ n → r.governor ≡ g
-    → Decides v d (λ v. judged v r h (fault_of v r.command r.parameters r.governor h))
+-- what a command comes to whose row in the list says this
+abbrev pub Judges : View → Decision → Code → Held → Type 0
+Judges v d code h =
+    (r : Row) → Some code ≡ meaning (Some r) → Decides v d (λ v. judged v r h (fault_of v r.command r.parameters r.governor h))

@@ -1,4 +1,3 @@
 pub mod DecideLaws
 pub mod WriteLaws
 pub mod ObeyLaws
-pub mod KeyLaws

@@ -1,14 +1,11 @@
 -- Laws of the subcommands: what lies on the screen, and which decisions the rules ask for.
 use Rattle.std.specs.Prelude.{Option, Some, None, Result, Err, ⊤}
-use mathlib.Core.Path.{◌≡◌, refl, sym, ap, ◌∙◌}
-use mathlib.Core.Bool.{Bool, true, false}
+use mathlib.Core.Path.{◌≡◌, refl, ap, ◌∙◌}
 use mathlib.Core.List.{[]}
-use Prim.Native.Nat.{ℕ, zero, suc, ◌*◌, ◌≤◌, ◌<◌}
-use native.Mathlib.Nat.{mul-le-mul_right}
+use Prim.Native.Nat.{ℕ, zero, suc, ◌≤◌, ◌<◌}
 use native.Mathlib.Omega.{arith}
 use Rattle.std.proofs.Common.{ne_eqb}
 use lib.ListN.{length}
-use Rattle.edit.specs.declared.range.Shift.{Shift}
 use Rattle.screen.specs.Cells.{line_end}
 use Rattle.screen.specs.Fields.{field_end}
 use Rattle.words.proofs.Laws.{either}
@@ -21,14 +18,14 @@ use Rattle.rules.specs.declared.Fault.{Fault}
 use Rattle.rules.specs.declared.Fault.TheVariants.{NotAgreed, UnknownCode, OffScreen, TooManyParameters, TooFewParameters, BadValue, BadMap}
 use Rattle.rules.specs.declared.Frame.{Frame}
 use Rattle.rules.specs.declared.Held.{Held}
-use Rattle.rules.specs.Session.{View, cells, cursor_cell, screen_end, with_attrs}
+use Rattle.rules.specs.Session.{View, cells, cursor_cell, with_attrs}
 use Rattle.rules.specs.Number.{error, fault_number}
 use Rattle.rules.specs.Edition.{code_for}
 use Rattle.rules.specs.Command.{Row, row_of, meaning, code_in, parameter, fault_of}
-use Rattle.rules.specs.Effect.{Effect, kept}
+use Rattle.rules.specs.Effect.{Effect}
 use Rattle.rules.specs.Cursor.{cursor_guarded, home_cell, back_tab_cell, first_field_cell, next_field_cell, previous_open_cell}
 use Rattle.rules.specs.Telnet.{host_character, host_characters}
-use Rattle.rules.specs.Subcommand.{cursor_span_end, shifting, cursor_line_start, lines_guarded, line_shifting, obeyed, erring, judged, looked, subcommand}
+use Rattle.rules.specs.Subcommand.{obeyed, erring, judged, looked, subcommand}
 use Rattle.command.specs.Inner.Frame.{OnScreen, Fits}
 use Rattle.decide.specs.declared.decision.Edit.TheVariants.{Nothing}
 use Rattle.decide.specs.declared.decision.Edit.TheVariants as edit
@@ -52,10 +49,6 @@ module _ {v : View} (fits : Fits v) where
 
   pub line_in : line_end v.frame.width v.frame.cursor.y ≤ length v.attrs
   line_in = rw fits.long (line_within v.frame.width fits.on.y)
-
-  -- a byte can number the line of every cell
-  pub lines_numbered : v.frame.height ≤ 256 → length v.attrs ≤ 256 * v.frame.width
-  lines_numbered h = rw fits.long (mul-le-mul_right v.frame.width h)
 
   -- the cursor's field ends after it
   pub field_after : cursor_cell v < field_end v.attrs (cursor_cell v)
@@ -88,24 +81,6 @@ module _ {v : View} (fits : Fits v) where
 
 -- ---- decisions
 
--- 15 and 16: what a shift does on a guarded cell, and on another
-module _ {v : View} {guarded : Bool} (e : guarded ≡ cursor_guarded v) (s : Shift) where
-  pub shift_not : guarded ≡ true → Decides v (decision v.frame Nothing Silent) (λ v. shifting v s)
-  shift_not t = record { meaning = rw (sym e ∙ t); sendable = tt }
-
-  pub shift_span : guarded ≡ false
-      → Decides v (decision v.frame (edit.Shift s (cursor_cell v) (cursor_span_end v) 1) Silent) (λ v. shifting v s)
-  shift_span t = record { meaning = rw (sym e ∙ t); sendable = tt }
-
--- 13 and 14: the same, by a cell of the lines
-module _ {v : View} {guarded : Bool} (e : guarded ≡ lines_guarded v) (s : Shift) where
-  pub lines_not : guarded ≡ true → Decides v (decision v.frame Nothing Silent) (λ v. line_shifting v s)
-  lines_not t = record { meaning = rw (sym e ∙ t); sendable = tt }
-
-  pub lines_shifted : guarded ≡ false
-      → Decides v (decision v.frame (edit.Shift s (cursor_line_start v) (screen_end v) v.frame.width) Silent) (λ v. line_shifting v s)
-  lines_shifted t = record { meaning = rw (sym e ∙ t); sendable = tt }
-
 -- 37: a repeated character touches no attribute byte, and says nothing
 repeat_attrs : (n : ℕ) (v : View) (c : ℕ) → (host_characters n v c).view.attrs ≡ v.attrs
 unfolding host_characters host_character
@@ -117,12 +92,6 @@ repeat_silent : (n : ℕ) (v : View) (c : ℕ) → (host_characters n v c).reply
 unfolding host_characters
 repeat_silent zero v c = refl
 repeat_silent (suc n) v c = refl
-
--- nor does it mark
-pub repeat_unmarked : (n : ℕ) (v : View) (c : ℕ) → (host_characters n v c).marking ≡ kept
-unfolding host_characters
-repeat_unmarked zero v c = refl
-repeat_unmarked (suc n) v c = refl
 
 pub repeated : {v : View} {d : Decision} (h : Held) {n c : ℕ} → n ≡ parameter h 0 → c ≡ parameter h 1
     → d ≡ decision v.frame (edit.Repeat n c) Silent → Decides v d (λ v. obeyed v Repeat h)
@@ -149,16 +118,20 @@ judged_by {v} held e by r m =
     recast (by r (rw (row_says r m))) (ap (λ (x : Result ⊤ Fault). shown (judged v r held x)) (e ∙ rw (row_says r m)))
 
 -- a fault but MOVE CURSOR's is an ERROR, and nothing changes
-pub errs : {v : View} {d : Decision} (r : Row) (h : Held) (fault : Fault) → (fault ≡ OffScreen → ⊥)
-    → Decides v d (λ w. erring w (code_in h) fault) → Decides v d (λ w. judged w r h (Err fault))
+erred : (v : View) (r : Row) (h : Held) (fault : Fault) → (fault ≡ OffScreen → ⊥) → judged v r h (Err fault) ≡ erring v (code_in h) fault
 unfolding judged
-errs r h NotAgreed o e = e
-errs r h UnknownCode o e = e
-errs r h OffScreen o e = absurd (o refl)
-errs r h TooManyParameters o e = e
-errs r h TooFewParameters o e = e
-errs r h BadValue o e = e
-errs r h BadMap o e = e
+erred v r h NotAgreed o = refl
+erred v r h UnknownCode o = refl
+erred v r h OffScreen o = absurd (o refl)
+erred v r h TooManyParameters o = refl
+erred v r h TooFewParameters o = refl
+erred v r h BadValue o = refl
+erred v r h BadMap o = refl
+
+pub errs : {v : View} {d : Decision} {k : Code} (h : Held) {fault : Fault} {n : ℕ}
+    → Err fault ≡ fault_of v k.command k.parameters k.governor h → (fault ≡ OffScreen → ⊥) → n ≡ code_in h
+    → d ≡ decision v.frame Nothing (Three (code_for v.frame.edition error) n (fault_number fault)) → Judges v d k h
+errs {v} h e o is by = judged_by h e (λ r c. decides by tt (rw (erred v r h _ o, is)))
 
 -- a decision by what the list says of the code
 module _ {v : View} {d : Decision} (h : Held) {e : Edition} {n : ℕ} (some : h.count ≡ 0 → ⊥) (at : e ≡ v.frame.edition) (is : n ≡ code_in h) where
@@ -180,13 +153,10 @@ module _ {v : View} {d : Decision} (h : Held) {e : Edition} {n : ℕ} (some : h.
       by_row None q m = decides by tt (rw (ne_eqb _ _ some, q, is))
 
 -- where a destination is on the screen
-pub ruleset destinations = (origin_lt, home_lt, back_tab_lt, first_field_lt, next_field_lt, previous_open_lt)
+pub ruleset destinations = (home_lt, back_tab_lt, first_field_lt, next_field_lt, previous_open_lt)
 
 -- what a command draws, by its fault
-pub ruleset judging = (recast, judged_by, errs)
-
--- a code that is known, and one that is not
-pub ruleset looking = (recast, looked_known, looked_unknown)
+pub ruleset judging = (judged_by, errs)
 
 -- where a transmission begins
-pub ruleset sending = (start_le, recast, cursor_in, line_in)
+pub ruleset sending = (start_le, line_in)

@@ -1,5 +1,5 @@
 -- Laws of writing a character: by its fate.
-use Rattle.std.specs.Prelude.{Ok, Err}
+use Rattle.std.specs.Prelude.{Ok}
 use mathlib.Core.Path.{◌≡◌, refl, ◌∙◌}
 use mathlib.Core.Bool.{false}
 use mathlib.Core.List.{[], ◌∷◌}
@@ -9,7 +9,6 @@ use Rattle.screen.specs.declared.cell.Place.{Place}
 use Rattle.screen.specs.Scans.{next_open_place}
 use Rattle.screen.specs.Classes.{takes}
 use Rattle.words.proofs.Laws.{true_or_false}
-use Rattle.rules.specs.declared.Refusal.{Refusal}
 use Rattle.rules.specs.declared.Destination.TheVariants.{NextOpen}
 use Rattle.rules.specs.declared.Key.{Key}
 use Rattle.rules.specs.declared.Key.TheVariants.{Typed}
@@ -22,15 +21,12 @@ use Rattle.rules.specs.Key.{pressed, key_tests, needs_of, class_allows}
 use Rattle.decide.specs.declared.text.Writer.TheVariants.{Host, Operator}
 use Rattle.decide.specs.declared.text.Fate.{Fate}
 use Rattle.decide.specs.declared.text.Fate.TheVariants.{Written, Dropped, RefusedByGuard, RefusedByClass}
-use Rattle.decide.specs.declared.decision.Edit.TheVariants.{Nothing}
-use Rattle.decide.specs.declared.decision.Say.TheVariants.{Silent}
 use Rattle.decide.specs.declared.decision.Decision.{Decision}
 use Rattle.decide.specs.Decision.{Decides}
-use Rattle.decide.specs.Inner.Decision.{decision}
 use Rattle.decide.specs.Inner.Writing.{if_written, fate_refusal}
-use Rattle.decide.proofs.DecideLaws.{decides, recast}
+use Rattle.decide.proofs.DecideLaws.{recast}
 use Rattle.command.specs.Inner.Frame.{Fits}
-use Rattle.decide.specs.Writing.{fate_of, place_after, after_fate, control_of, pressed_if_taken}
+use Rattle.decide.specs.Writing.{fate_of, place_after, control_of, pressed_if_taken}
 
 -- a host character goes by its fate
 pub by_fate : (v : View) (c : ℕ)
@@ -53,13 +49,6 @@ not_written Dropped h done none = refl
 not_written RefusedByGuard h done none = refl
 not_written RefusedByClass h done none = refl
 
-pub not_moved : (fate : Fate) → (fate ≡ Written → ⊥) → (here next : Place) → here ≡ after_fate fate here next
-unfolding after_fate
-not_moved Written h here next = absurd (h refl)
-not_moved Dropped h here next = refl
-not_moved RefusedByGuard h here next = refl
-not_moved RefusedByClass h here next = refl
-
 -- where the code's scan for the next open place goes, with the cursor on the screen
 pub next_open_is : {v : View} {p : Place} → Fits v →
     let f = v.frame in p ≡ next_open_place f.suppressed v.attrs f.width f.height f.cursor → p ≡ destination v NextOpen
@@ -71,15 +60,7 @@ pub control_is : (v : View) (b : ℕ) → printable b ≡ false → host_data v 
 unfolding control_of
 control_is v b e = rw e
 
--- ---- a key that is refused, or not
-
-module _ {v : View} (k : Key) {d : Decision} where
-  pub pressed_not : {why : Refusal} → Err why ≡ verdict (key_tests v k) → d ≡ decision v.frame Nothing Silent
-      → Decides v d (λ v. pressed_if_taken v k)
-  pressed_not e q = decides q tt (rw (← e))
-
-  pub pressed_taken : Ok tt ≡ verdict (key_tests v k) → Decides v d (λ v. pressed v k) → Decides v d (λ v. pressed_if_taken v k)
-  pressed_taken e by = recast by (rw (← e))
-
-  pub pressed_was : Ok tt ≡ verdict (key_tests v k) → Decides v d (λ v. pressed_if_taken v k) → Decides v d (λ v. pressed v k)
-  pressed_was e by = recast by (rw (← e))
+-- what a caller who knows that the key is not refused has
+pub pressed_was : {v : View} (k : Key) {d : Decision} → Ok tt ≡ verdict (key_tests v k) → Decides v d (λ v. pressed_if_taken v k)
+    → Decides v d (λ v. pressed v k)
+pressed_was k e by = recast by (rw (← e))

@@ -8,7 +8,7 @@ ghost use Rattle.decide.specs.Inner.Decision.{decision};
 use crate::decision::{Decision, Edit, Fill};
 use crate::view::View;
 use edit::range::Shift;
-use rules::{Area, Destination, Frame};
+use rules::{Area, Destination};
 use screen::cell::{line_end, line_start};
 use screen::field::{field_end, field_start, some_guarded, span_end};
 
@@ -95,7 +95,6 @@ impl View<'_> {
     }
 
     // 15, 16: nothing on a guarded cell.
-    #[tactic(auto, using(crate::proofs::ObeyLaws::shift_not, crate::proofs::ObeyLaws::shift_span))]
     pub(crate) fn char_shift(&self, shift: Shift) -> Decision
         ensures { Decides self.now result (λ v. shifting v shift) }
     {
@@ -114,7 +113,6 @@ impl View<'_> {
     }
 
     // 13, 14: nothing where a cell from the start of the line on is guarded.
-    #[tactic(auto, using(crate::proofs::ObeyLaws::lines_not, crate::proofs::ObeyLaws::lines_shifted))]
     pub(crate) fn line_shift(&self, shift: Shift) -> Decision
         ensures { Decides self.now result (λ v. line_shifting v shift) }
     {

@@ -176,7 +176,7 @@ impl View<'_> {
         first(self.attrs, Target::UnprotectedStart, 0, none)
     }
 
-    #[tactic(auto, using(screen::proofs::CellLaws::byte_product), unfolding(screen::specs::Scans::is_target, rules::specs::Cursor::first_field_cell, rules::specs::Cursor::next_field_cell))]
+    #[tactic(auto, unfolding(screen::specs::Scans::is_target, rules::specs::Cursor::first_field_cell, rules::specs::Cursor::next_field_cell))]
     fn next_field_cell(&self) -> usize
         ensures { result ≡ next_field_cell self.now }
     {

@@ -1,5 +1,5 @@
 // What a host byte or a key is decided to do. Characters are named by their cells.
-ghost use Rattle.std.specs.Prelude.{◌≡◌};
+ghost use Rattle.std.specs.Prelude.{◌≡◌, false};
 ghost use Rattle.decide.specs.Inner.Decision.{decision};
 
 use edit::range::Shift;
@@ -8,6 +8,7 @@ use screen::cell::Place;
 use telnet::Verb;
 
 // What becomes of the characters. (Request (v): `Put`, a typed character, and `Shift` mark the cells that they write.)
+// No Option: nothing is one of the cases, and each use would match twice (`None`, `Some(Edit::Put { .. })`, ..). So too `Say::Silent`.
 #[derive(Clone, Copy)]
 pub enum Edit {
     Nothing,
@@ -87,8 +88,9 @@ pub struct Decision {
 }
 
 impl Decision {
-    pub(crate) fn quiet(frame: Frame) -> Self
-        ensures { result ≡ decision frame Edit.Nothing Say.Silent }
+    // Nothing is done.
+    pub fn quiet(frame: Frame) -> Self
+        ensures { result ≡ record { frame = frame; edit = Edit.Nothing; say = Say.Silent; format = None; clear = false } }
     {
         Decision {
             frame,

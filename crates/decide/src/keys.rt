@@ -1,6 +1,5 @@
 // One key: what it means, which refusal it draws, what it does.
-ghost use Rattle.std.specs.Prelude.{◌≡◌, ◌-◌, if◌then◌else◌};
-ghost use Rattle.words.specs.Words.{between};
+ghost use Rattle.std.specs.Prelude.{◌≡◌};
 ghost use Rattle.rules.specs.Key.{key_of, key_tests, pressed};
 ghost use Rattle.rules.specs.Refusal.{verdict};
 ghost use Rattle.command.specs.Frame.{seen};
@@ -18,28 +17,18 @@ use edit::range::Shift;
 use rules::{Area, Destination, Frame, Key, Refusal};
 
 // 128 to 143 are the function keys, numbered from 1.
-fn function_key(key: u8) -> Key
-    ensures { result ≡ (if between 128 143 key then Key.Function (key - 127) else Key.Meaningless) }
-{
-    match key {
-        128..=143 => Key::Function(key - 127),
-        _ => Key::Meaningless,
-    }
-}
-
 #[tactic(auto, unfolding(rules::specs::Key::key_of))]
 pub fn key_of(key: u8) -> Key
     ensures { result ≡ key_of key }
 {
-    if is_printable(key) {
-        return Key::Typed(key);
-    }
     match key {
+        _ if is_printable(key) => Key::Typed(key),
         8 => Key::Back,
         9 => Key::Tab,
         13 => Key::Send,
         127 => Key::Delete,
-        _ => function_key(key),
+        128..=143 => Key::Function(key - 127),
+        _ => Key::Meaningless,
     }
 }
 
@@ -72,7 +61,7 @@ pub fn refuse_pressed(frame: Frame, attrs: &[u8], key: Key) -> Result<(), Refusa
 
 impl View<'_> {
     // What a key does that is not refused: a character is written at the cursor.
-    #[tactic(auto, using(crate::proofs::DecideLaws::decides), unfolding(rules::specs::Key::pressed))]
+    #[tactic(auto, unfolding(rules::specs::Key::pressed))]
     fn press_taken(&self, key: Key) -> Decision
         ensures { Decides self.now result (λ v. pressed v key) }
     {
@@ -99,8 +88,7 @@ impl View<'_> {
         }
     }
 
-    // What a key does. Nothing is done where it is refused,
-    #[tactic(auto, using(crate::proofs::WriteLaws::pressed_not, crate::proofs::WriteLaws::pressed_taken))]
+    // What a key does: nothing where it is refused.
     fn press(&self, key: Key) -> Decision
         ensures { Decides self.now result (λ v. pressed_if_taken v key) }
     {
@@ -111,7 +99,7 @@ impl View<'_> {
     }
 }
 
-// nor where the cursor is off the screen or the attribute bytes are not the screen's.
+// The same of any frame: nothing is done where the cursor is off the screen or the attribute bytes are not the screen's.
 pub fn press(frame: Frame, attrs: &[u8], key: Key) -> Decision
     ensures { Decides (seen frame attrs.now) result (where_fits (λ v. pressed_if_taken v key)) }
 {

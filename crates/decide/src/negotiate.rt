@@ -41,7 +41,7 @@ fn is_on(frame: Frame, option: TelnetOption) -> bool
 }
 
 // May it be switched on? 30 only where a full edit line fits the reply room.
-#[tactic(auto, using(screen::proofs::CellLaws::byte_product), unfolding(rules::specs::Telnet::accepts))]
+#[tactic(auto, unfolding(rules::specs::Telnet::accepts))]
 fn is_accepted(frame: Frame, option: TelnetOption) -> bool
     ensures { result ≡ accepts frame option }
 {
@@ -63,7 +63,7 @@ fn turned(frame: Frame, option: TelnetOption, on: bool) -> Frame
     }
 }
 
-#[tactic(auto, using(crate::proofs::DecideLaws::decides), unfolding(rules::specs::Telnet::negotiated, rules::specs::Telnet::switched_on))]
+#[tactic(auto, unfolding(rules::specs::Telnet::negotiated, rules::specs::Telnet::switched_on))]
 fn asked_to(frame: Frame, option: u8) -> Decision
     ensures { (attrs : List ℕ) → Decides (view frame attrs) result (λ v. negotiated v Verb.Do option) }
 {
@@ -79,7 +79,7 @@ fn asked_to(frame: Frame, option: u8) -> Decision
     answered(frame, Verb::Wont, option)
 }
 
-#[tactic(auto, using(crate::proofs::DecideLaws::decides), unfolding(rules::specs::Telnet::negotiated, rules::specs::Telnet::switched_off))]
+#[tactic(auto, unfolding(rules::specs::Telnet::negotiated, rules::specs::Telnet::switched_off))]
 fn asked_not_to(frame: Frame, option: u8) -> Decision
     ensures { (attrs : List ℕ) → Decides (view frame attrs) result (λ v. negotiated v Verb.Dont option) }
 {
@@ -93,7 +93,7 @@ fn asked_not_to(frame: Frame, option: u8) -> Decision
     }
 }
 
-#[tactic(auto, using(crate::proofs::DecideLaws::decides), unfolding(rules::specs::Telnet::negotiated))]
+#[tactic(auto, unfolding(rules::specs::Telnet::negotiated))]
 pub fn negotiate(frame: Frame, verb: Verb, option: u8) -> Decision
     ensures { (attrs : List ℕ) → Decides (view frame attrs) result (λ v. negotiated v verb option) }
 {

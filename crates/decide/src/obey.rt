@@ -77,7 +77,7 @@ impl View<'_> {
     }
 
     // 1 to 4: the map received is kept, and the terminal's own answered.
-    #[tactic(auto, using(crate::proofs::DecideLaws::decides), unfolding(rules::specs::Subcommand::obeyed))]
+    #[tactic(auto, unfolding(rules::specs::Subcommand::obeyed))]
     fn facilities(&self, facility: Facility, held: Held) -> Decision
         ensures { Decides self.now result (λ v. obeyed v (Command.Facilities facility) held) }
     {
@@ -96,17 +96,13 @@ impl View<'_> {
     fn read_cursor(&self, held: Held) -> Decision
         ensures { Decides self.now result (λ v. obeyed v Command.ReadCursor held) }
     {
-        let Frame {
-            edition,
-            cursor,
-            ..
-        } = self.frame;
+        let frame = self.frame;
         Decision::saying(
-            self.frame,
+            frame,
             Say::Three {
-                code: sent::code(edition, Sent::CursorPosition),
-                a: cursor.x.0,
-                b: cursor.y.0,
+                code: sent::code(frame.edition, Sent::CursorPosition),
+                a: frame.cursor.x.0,
+                b: frame.cursor.y.0,
             },
         )
     }
@@ -133,19 +129,14 @@ impl View<'_> {
         ensures { Decides self.now result (λ v. suppressing v parameter) }
     {
         let frame = self.frame;
-        let Frame {
-            edition,
-            det,
-            suppressed,
-            ..
-        } = frame;
+        let edition = frame.edition;
         match parameter {
-            DO if !suppressed => Decision::saying(
-                switched(frame, det, true),
+            DO if !frame.suppressed => Decision::saying(
+                switched(frame, frame.det, true),
                 suppression_answer(edition, WILL),
             ),
-            DONT if suppressed => Decision::saying(
-                switched(frame, det, false),
+            DONT if frame.suppressed => Decision::saying(
+                switched(frame, frame.det, false),
                 suppression_answer(edition, WONT),
             ),
             WILL => Decision::saying(frame, suppression_answer(edition, DONT)),
@@ -191,13 +182,15 @@ impl View<'_> {
         let frame = self.frame;
         match fault_of(frame, self.attrs, known, held) {
             Ok(()) => self.obey(known.command, held),
-            Err(Fault::OffScreen) => err(self.limited(held), code(held), Fault::OffScreen),
-            Err(fault) => err(frame, code(held), fault),
+            Err(fault) => match fault {
+                Fault::OffScreen => err(self.limited(held), code(held), fault),
+                _ => err(frame, code(held), fault),
+            },
         }
     }
 
     // A subnegotiation of option 20 that ended while DET is on, with these bytes held.
-    #[tactic(auto, using(crate::proofs::ObeyLaws::looking), unfolding(rules::specs::Subcommand::subcommand))]
+    #[tactic(auto, using(crate::proofs::ObeyLaws::looked_unknown), unfolding(rules::specs::Subcommand::subcommand))]
     fn obey_held(&self, held: Held) -> Decision
         ensures { Decides self.now result (λ v. subcommand v held) }
     {
@@ -213,7 +206,7 @@ impl View<'_> {
     }
 
     // A subnegotiation that ended: obeyed if it was option 20's and DET is on.
-    #[tactic(auto, using(crate::proofs::DecideLaws::decides, crate::proofs::DecideLaws::recast), unfolding(crate::specs::Decision::ended_det))]
+    #[tactic(auto, unfolding(crate::specs::Decision::ended_det))]
     fn end(&self, held: Held, option: u8) -> Decision
         ensures { Decides self.now result (λ v. ended_det v held option) }
     {

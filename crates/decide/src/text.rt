@@ -9,6 +9,7 @@ ghost use Rattle.decide.specs.Writing.{fate_of, control_of, Writes};
 
 use crate::cursor::{down, left, next_cell, start_of_line};
 use command::frame::{cursor_cell, cursor_guarded};
+use pad::ascii::{BS, CR, LF};
 use rules::Frame;
 use screen::attribute::attribute_at;
 use screen::cell::Place;
@@ -60,7 +61,7 @@ pub(crate) fn judge_character(frame: Frame, attrs: &[u8], writer: Writer, byte: 
 }
 
 // A character from the host.
-#[tactic(auto, using(crate::proofs::WriteLaws::not_moved), unfolding(crate::specs::Writing::after_fate, rules::specs::Cursor::destination))]
+#[tactic(auto, unfolding(crate::specs::Writing::after_fate, rules::specs::Cursor::destination))]
 pub fn write_host(frame: Frame, attrs: &[u8], byte: u8) -> Writing
     ensures { Writes (seen frame attrs.now) Writer.Host byte result }
 {
@@ -78,9 +79,9 @@ pub fn control(frame: Frame, byte: u8) -> Place
     ensures { (attrs : List ℕ) → control_of (view frame attrs) byte ≡ quiet (view (placed frame result) attrs) }
 {
     match byte {
-        13 => start_of_line(frame),
-        10 => down(frame),
-        8 => left(frame),
+        CR => start_of_line(frame),
+        LF => down(frame),
+        BS => left(frame),
         _ => frame.cursor,
     }
 }

@@ -30,7 +30,7 @@ impl View<'_> {
     }
 
     // 22: the cursor goes to the start of the next line.
-    #[tactic(auto, using(crate::proofs::ObeyLaws::line_in), unfolding(rules::specs::Cursor::destination, rules::specs::Subcommand::transmitted))]
+    #[tactic(auto, unfolding(rules::specs::Cursor::destination, rules::specs::Subcommand::transmitted))]
     fn send_line(&self) -> Decision
         ensures { Decides self.now result (λ v. transmitted v Area.WholeLine) }
     {
@@ -54,7 +54,6 @@ impl View<'_> {
     }
 
     // 27 (request (v)): every unprotected field with a marked cell. The marks are read when the reply is written, and are then cleared.
-    #[tactic(auto, using(crate::proofs::ObeyLaws::lines_numbered))]
     pub(crate) fn send_modified(&self) -> Decision
         ensures { Decides self.now result (λ v. transmitted_modified v) }
     {
@@ -68,7 +67,7 @@ impl View<'_> {
     }
 
     // 23, 26: the cursor's field from a cell on; on a guarded cell nothing follows the preface.
-    #[tactic(auto, using(screen::proofs::FieldLaws::end_le, crate::proofs::DecideLaws::cursor_lt, crate::proofs::ObeyLaws::field_after))]
+    #[tactic(auto, using(screen::proofs::FieldLaws::end_le, crate::proofs::ObeyLaws::field_after))]
     fn send_field(&self, from: usize) -> Decision
         requires up_to_cursor { from ≤ cursor_cell self.now }
         ensures { Decides self.now result (λ v. field_from v from) }

@@ -1,7 +1,7 @@
 -- Laws of writing a character: by its fate.
-use Rattle.std.specs.Prelude.{Ok}
+use Rattle.std.specs.Prelude.{Ok, if◌then◌else◌}
 use mathlib.Core.Path.{◌≡◌, refl, ◌∙◌}
-use mathlib.Core.Bool.{false}
+use mathlib.Core.Bool.{Bool, true, false}
 use mathlib.Core.List.{[], ◌∷◌}
 use Prim.Native.Nat.{ℕ}
 use borrow.Author.Tests.{lt-ltb, eq-eqb}
@@ -21,12 +21,13 @@ use Rattle.rules.specs.Key.{pressed, key_tests, needs_of, class_allows}
 use Rattle.decide.specs.declared.text.Writer.TheVariants.{Host, Operator}
 use Rattle.decide.specs.declared.text.Fate.{Fate}
 use Rattle.decide.specs.declared.text.Fate.TheVariants.{Written, Dropped, RefusedByGuard, RefusedByClass}
+use Rattle.decide.specs.declared.text.Writing.{Writing}
 use Rattle.decide.specs.declared.decision.Decision.{Decision}
 use Rattle.decide.specs.Decision.{Decides}
 use Rattle.decide.specs.Inner.Writing.{if_written, fate_refusal}
 use Rattle.decide.proofs.DecideLaws.{recast}
 use Rattle.command.specs.Inner.Frame.{Fits}
-use Rattle.decide.specs.Writing.{fate_of, place_after, control_of, pressed_if_taken}
+use Rattle.decide.specs.Writing.{fate_of, place_after, after_fate, control_of, pressed_if_taken, Writes}
 
 -- a host character goes by its fate
 pub by_fate : (v : View) (c : ℕ)
@@ -39,6 +40,22 @@ pub refused_by_fate : (v : View) (c : ℕ) → fate_refusal (fate_of Operator v 
 unfolding fate_of verdict key_tests needs_of
 refused_by_fate v c =
     true_or_false (cursor_guarded v) (λ g. rw g) (λ g. true_or_false (class_allows v (λ attr. takes attr c)) (λ a. rw (g, a)) (λ a. rw (g, a)))
+
+-- a typed character that is not refused is written
+only_written : (guarded allowed : Bool)
+    → let fate = if guarded then RefusedByGuard else if allowed then Written else RefusedByClass in fate_refusal fate ≡ Ok tt → fate ≡ Written
+only_written true allowed e = cc
+only_written false true e = refl
+only_written false false e = cc
+
+-- and where the rule for its key says
+pub typed : {v : View} {c : ℕ} {w : Writing} → Writes v Operator c w → verdict (key_tests v (Typed c)) ≡ Ok tt
+    → w.cursor ≡ place_after Operator v
+unfolding after_fate fate_of
+typed {v} {c} one e =
+    let written : fate_of Operator v c ≡ Written =
+    only_written (cursor_guarded v) (class_allows v (λ attr. takes attr c)) (refused_by_fate v c ∙ e) in
+    one.cursor ∙ rw (one.fate, written)
 
 -- what the other arm of a match on Written knows
 pub not_written : (f : Fate) → (f ≡ Written → ⊥)

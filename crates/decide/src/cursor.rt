@@ -18,6 +18,8 @@ ghost use Rattle.rules.specs.Cursor.{
   previous_open_cell,
   destination,
 };
+ghost use Rattle.command.specs.Frame.{seen};
+ghost use Rattle.command.specs.Inner.Frame.{Fits};
 
 use crate::view::View;
 use command::frame::moved;
@@ -85,6 +87,21 @@ pub(crate) fn next_cell(frame: Frame) -> Place
         return at(0, y + 1);
     }
     frame.cursor
+}
+
+// After a typed character.
+#[tactic(auto, using(crate::proofs::WriteLaws::next_open_is))]
+pub(crate) fn next_open_place(frame: Frame, attrs: &[u8]) -> Place
+    requires { Fits (seen frame attrs.now) }
+    ensures { result ≡ destination (seen frame attrs.now) Destination.NextOpen }
+{
+    next_open(
+        frame.suppressed,
+        attrs,
+        frame.width,
+        frame.height,
+        frame.cursor,
+    )
 }
 
 impl View<'_> {
@@ -192,21 +209,6 @@ impl View<'_> {
         last(self.attrs, Target::Open(self.frame.suppressed), cell, cell)
     }
 
-    // After a typed character.
-    #[tactic(auto, using(crate::proofs::WriteLaws::next_open_is))]
-    fn next_open_place(&self) -> Place
-        ensures { result ≡ destination self.now Destination.NextOpen }
-    {
-        let frame = self.frame;
-        next_open(
-            frame.suppressed,
-            self.attrs,
-            frame.width,
-            frame.height,
-            frame.cursor,
-        )
-    }
-
     // Any of them.
     #[tactic(auto, using(crate::proofs::ObeyLaws::destinations), unfolding(rules::specs::Cursor::destination))]
     pub(crate) fn destination(&self, to: Destination) -> Place
@@ -228,7 +230,7 @@ impl View<'_> {
             Destination::ReverseTab => self.place_on(self.back_tab_cell()),
             Destination::FirstField => self.place_on(self.first_field_cell(0)),
             Destination::NextField => self.place_on(self.next_field_cell()),
-            Destination::NextOpen => self.next_open_place(),
+            Destination::NextOpen => next_open_place(frame, self.attrs),
             Destination::PreviousOpen => self.place_on(self.previous_open_cell()),
         }
     }

@@ -8,10 +8,10 @@ ghost use Rattle.decide.specs.Writing.{pressed_if_taken};
 ghost use Rattle.decide.specs.Inner.Writing.{fate_refusal};
 
 use crate::decision::{Decision, Edit, Say};
-use crate::text::{Fate, Writer, judge_character};
+use crate::text::{Fate, Writer, judge_character, write};
 use crate::view::View;
 use command::character::is_printable;
-use command::frame::cursor_guarded;
+use command::frame::{cursor_guarded, moved};
 use command::sent::{self, Sent};
 use edit::range::Shift;
 use rules::{Area, Destination, Frame, Key, Refusal};
@@ -60,19 +60,30 @@ pub fn refuse_pressed(frame: Frame, attrs: &[u8], key: Key) -> Result<(), Refusa
 }
 
 impl View<'_> {
-    // What a key does that is not refused: a character is written at the cursor.
+    // A character that is not refused is written at the cursor.
+    #[tactic(auto, using(crate::proofs::WriteLaws::typed), unfolding(rules::specs::Key::pressed))]
+    fn type_in(&self, byte: u8) -> Decision
+        requires { verdict (key_tests self.now (Key.Typed byte)) ≡ Ok tt }
+        ensures { Decides self.now result (λ v. pressed v (Key.Typed byte)) }
+    {
+        let writing = write(self.frame, self.attrs, Writer::Operator, byte);
+        Decision::editing(
+            moved(self.frame, writing.cursor),
+            Edit::Put {
+                cell: self.cursor_cell(),
+                byte,
+            },
+        )
+    }
+
+    // What a key does that is not refused.
     #[tactic(auto, unfolding(rules::specs::Key::pressed))]
     fn press_taken(&self, key: Key) -> Decision
+        requires { verdict (key_tests self.now key) ≡ Ok tt }
         ensures { Decides self.now result (λ v. pressed v key) }
     {
         match key {
-            Key::Typed(byte) => Decision::editing(
-                self.sent_to(Destination::NextOpen),
-                Edit::Put {
-                    cell: self.cursor_cell(),
-                    byte,
-                },
-            ),
+            Key::Typed(byte) => self.type_in(byte),
             Key::Back => Decision::quiet(self.sent_to(Destination::PreviousOpen)),
             Key::Tab => Decision::quiet(self.sent_to(Destination::NextField)),
             Key::Send => self.transmit(Area::Unprotected),

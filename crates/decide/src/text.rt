@@ -5,9 +5,10 @@ ghost use Rattle.rules.specs.Session.{placed, view};
 ghost use Rattle.rules.specs.Effect.{quiet};
 ghost use Rattle.rules.specs.Key.{class_allows};
 ghost use Rattle.command.specs.Frame.{seen};
-ghost use Rattle.decide.specs.Writing.{fate_of, control_of, Writes};
+ghost use Rattle.decide.specs.Writing.{fate_of, place_after, control_of, Writes};
+ghost use Rattle.decide.specs.Inner.Writing.{Ready};
 
-use crate::cursor::{down, left, next_cell, start_of_line};
+use crate::cursor::{down, left, next_cell, next_open_place, start_of_line};
 use command::frame::{cursor_cell, cursor_guarded};
 use pad::ascii::{BS, CR, LF};
 use rules::Frame;
@@ -45,7 +46,6 @@ fn class_allows(frame: Frame, attrs: &[u8], byte: u8) -> bool
     frame.suppressed || takes_typed(attribute_at(attrs, cursor_cell(frame)), byte)
 }
 
-// What happens to a character that is written at the cursor, from the host, by REPEAT or typed.
 #[tactic(auto, unfolding(crate::specs::Writing::fate_of))]
 pub(crate) fn judge_character(frame: Frame, attrs: &[u8], writer: Writer, byte: u8) -> Fate
     ensures { result ≡ fate_of writer (seen frame attrs.now) byte }
@@ -60,17 +60,37 @@ pub(crate) fn judge_character(frame: Frame, attrs: &[u8], writer: Writer, byte: 
     }
 }
 
-// A character from the host.
-#[tactic(auto, unfolding(crate::specs::Writing::after_fate, rules::specs::Cursor::destination))]
-pub fn write_host(frame: Frame, attrs: &[u8], byte: u8) -> Writing
-    ensures { Writes (seen frame attrs.now) Writer.Host byte result }
+// Where the cursor goes after a character: to the next cell, or to the next that is not guarded.
+#[tactic(auto, unfolding(rules::specs::Cursor::destination))]
+fn place_after(frame: Frame, attrs: &[u8], writer: Writer) -> Place
+    requires { Ready writer (seen frame attrs.now) }
+    ensures { result ≡ place_after writer (seen frame attrs.now) }
 {
-    let fate = judge_character(frame, attrs, Writer::Host, byte);
+    match writer {
+        Writer::Host => next_cell(frame),
+        Writer::Operator => next_open_place(frame, attrs),
+    }
+}
+
+// Writes a character at the cursor, or does not, and tells which. All that write go by this: host text, REPEAT and typing.
+#[tactic(auto, unfolding(crate::specs::Writing::after_fate))]
+pub(crate) fn write(frame: Frame, attrs: &[u8], writer: Writer, byte: u8) -> Writing
+    requires { Ready writer (seen frame attrs.now) }
+    ensures { Writes (seen frame attrs.now) writer byte result }
+{
+    let fate = judge_character(frame, attrs, writer, byte);
     let cursor = match fate {
-        Fate::Written => next_cell(frame),
+        Fate::Written => place_after(frame, attrs, writer),
         _ => frame.cursor,
     };
     Writing { fate, cursor }
+}
+
+// A character from the host.
+pub fn write_host(frame: Frame, attrs: &[u8], byte: u8) -> Writing
+    ensures { Writes (seen frame attrs.now) Writer.Host byte result }
+{
+    write(frame, attrs, Writer::Host, byte)
 }
 
 // Host data that is no character: CR, LF and BS move the cursor, any other byte does nothing. The cursor after it.

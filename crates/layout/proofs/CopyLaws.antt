@@ -1,5 +1,5 @@
 -- Laws of what the code reads and writes.
-use Rattle.layout.proofs.Kit.{◌≡◌, refl, sym, ◌∙◌, List, [], ◌∷◌, ◌++◌, append-nil, ℕ, zero, suc, ◌+◌, ◌≤◌, ◌<◌, zero-add, arith}
+use Rattle.layout.proofs.Kit.{◌≡◌, refl, sym, ◌∙◌, List, [], ◌∷◌, ◌++◌, append-nil, ℕ, zero, suc, ◌+◌, ◌≤◌, zero-add, arith}
 use Rattle.layout.proofs.Kit.{length, set, take, drop, replicate, length-append, length-drop, length-take-le, length-replicate, drop_of_length-le, get_or-take, get_or-drop}
 use Rattle.layout.proofs.Kit.{sets-eq, take-length, tabulate, tabulated, put_mid, put_mid-paste}
 use Rattle.layout.proofs.Kit.{Emitted, emitted_then, emitted_whole}

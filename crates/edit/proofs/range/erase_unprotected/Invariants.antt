@@ -1,4 +1,4 @@
-use Rattle.std.proofs.Common.{false, not, ◌&&◌, ◌-◌, ◌≤◌}
+use Rattle.std.proofs.Common.{false, not, ◌&&◌, ◌≤◌}
 use Rattle.screen.specs.Words.{in_range}
 use Rattle.screen.specs.Attributes.{guarded_at}
 use Rattle.edit.proofs.ListLaws.{Storing}

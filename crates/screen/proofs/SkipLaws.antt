@@ -46,17 +46,6 @@ module _ (attrs : List ℕ) (i : ℕ) (some : 0 < i) (within : i < length attrs)
 pub record AllPassed (attrs : List ℕ) (protected alike : Bool) (cell n : ℕ) : Type 0 where
   pub each : (k : ℕ) → cell ≤ k → k < cell + n → passed protected alike (get_or attrs (k - 1) 0) (get_or attrs k 0) ≡ true
 
-module _ {attrs : List ℕ} {protected alike : Bool} {cell : ℕ} where
-  pub passed_none : AllPassed attrs protected alike cell 0
-  passed_none = record { each = λ k a b. absurd (omega arith) }
-
-  -- one more
-  pub passed_next : {n : ℕ} → AllPassed attrs protected alike cell n
-      → passed protected alike (get_or attrs (cell + n - 1) 0) (get_or attrs (cell + n) 0) ≡ true → AllPassed attrs protected alike cell (n + 1)
-  passed_next {n} p e = record {
-    each = λ k a b. less_or_not k (cell + n) (p.each k a) (λ h. let q : k ≡ cell + n = omega arith in rw q e);
-  }
-
 module _ {attrs : List ℕ} {t : Target} where
   pub passed_none_in : {protected alike : Bool} {cell n : ℕ} → protected ≡ passes_protected t → alike ≡ passes_alike t → 0 < cell
       → cell + n ≤ length attrs → AllPassed attrs protected alike cell n → NoneIn attrs t cell (cell + n)

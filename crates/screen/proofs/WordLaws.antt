@@ -38,16 +38,11 @@ module _ (test : ℕ → Bool) (none : ℕ) where
   last_below zero b h k = k
   last_below (suc n) b h k = either (λ o. o < b) (test n) (λ e. omega arith) (λ e. last_below n b (omega arith) k)
 
-  -- of the n numbers from 0 on: the last passes, the last does not
+  -- of the n numbers from 0 on, the last passes
   pub last_hit : (n : ℕ) → 0 < n → test (n - 1) ≡ true → last_of test none n ≡ n - 1
   unfolding last_of
   last_hit zero h e = absurd (omega arith)
   last_hit (suc n) h e = let k : suc n - 1 ≡ n = omega arith in rw (k, rw k at e)
-
-  pub last_skip : (n : ℕ) → 0 < n → test (n - 1) ≡ false → last_of test none n ≡ last_of test none (n - 1)
-  unfolding last_of
-  last_skip zero h e = absurd (omega arith)
-  last_skip (suc n) h e = let k : suc n - 1 ≡ n = omega arith in rw (k, rw k at e)
 
   -- n of them that do not pass, from i on and before the rest; and from k on, after the rest
   pub first_skips : (n i end : ℕ) → i + n ≤ end → ((k : ℕ) → i ≤ k → k < i + n → test k ≡ false)

@@ -69,7 +69,7 @@ pub enum Say {
 }
 
 // The cells of a range take this attribute byte.
-#[derive(Clone, Copy)]
+#[derive(Clone, Copy, Debug, PartialEq, Eq)]
 pub struct Fill {
     pub from: usize,
     pub end: usize,

@@ -17,14 +17,14 @@ use screen::cell::Place;
 use screen::class::takes_typed;
 
 // Who writes a character.
-#[derive(Clone, Copy)]
+#[derive(Clone, Copy, Debug, PartialEq, Eq)]
 pub enum Writer {
     Host,
     Operator,
 }
 
 // What happens to a character.
-#[derive(Clone, Copy)]
+#[derive(Clone, Copy, Debug, PartialEq, Eq)]
 pub enum Fate {
     Written,
     Dropped,
@@ -46,6 +46,8 @@ fn class_allows(frame: Frame, attrs: &[u8], byte: u8) -> bool
     frame.suppressed || takes_typed(attribute_at(attrs, cursor_cell(frame)), byte)
 }
 
+// What happens to a character at the cursor. It is asked of any frame (`write_host` and `refuse_pressed` ask nothing of their callers), and
+// so takes no `View`.
 #[tactic(auto, unfolding(crate::specs::Writing::fate_of))]
 pub(crate) fn judge_character(frame: Frame, attrs: &[u8], writer: Writer, byte: u8) -> Fate
     ensures { result ≡ fate_of writer (seen frame attrs.now) byte }

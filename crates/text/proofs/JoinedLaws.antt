@@ -3,7 +3,7 @@ use Rattle.std.specs.Prelude.{if◌then◌else◌}
 use mathlib.Core.Path.{◌≡◌, refl, sym, ap, ◌∙◌}
 use mathlib.Core.Bool.{Bool, true, false, ◌&&◌}
 use mathlib.Core.List.{List, [], ◌∷◌, ◌++◌}
-use Prim.Native.Nat.{ℕ, suc, ◌-◌, ◌≤◌, ◌<◌}
+use Prim.Native.Nat.{ℕ, suc, ◌-◌, ◌<◌}
 use native.Mathlib.Omega.{arith}
 use borrow.Author.Tests.{ne_eqb}
 use lib.Dec.{eqb}
@@ -47,15 +47,15 @@ printed_no_lf b p = ne_eqb b 10 (λ e. not_both (printable 10) (rw e at p) refl)
 
 -- ---- whether a CR came last
 
-pub ends_none : (cr : Bool) (xs : List ℕ) (at : ℕ) → at ≡ 0 → cr ≡ ends_in_cr cr (take at xs)
+pub ends_none : (cr : Bool) (xs : List ℕ) → length xs ≡ 0 → ends_in_cr cr xs ≡ cr
 unfolding ends_in_cr
-ends_none cr xs at e = rw e
+ends_none cr [] e = refl
+ends_none cr (x ∷ xs) e = absurd (omega arith)
 
-pub ends_last : (cr : Bool) (xs : List ℕ) (at : ℕ) → 0 < at → at ≤ length xs → eqb (get_or xs (at - 1) 0) 13 ≡ ends_in_cr cr (take at xs)
-ends_last cr xs at h l =
-    let n = at - 1 in
-    let e : at ≡ suc n = omega arith in
-    sym (ends_next cr (take n xs) (get_or xs n 0)) ∙ ap (ends_in_cr cr) (sym (take-suc xs n 0 (omega arith)) ∙ ap (λ k. take k xs) (sym e))
-
-pub ends_all : (cr : Bool) (xs : List ℕ) → ends_in_cr cr (take (length xs) xs) ≡ ends_in_cr cr xs
-ends_all cr xs = rw (take_all (length xs) xs (omega arith))
+pub ends_last : (cr : Bool) (xs : List ℕ) → 0 < length xs → ends_in_cr cr xs ≡ eqb (get_or xs (length xs - 1) 0) 13
+ends_last cr xs h =
+    let n = length xs - 1 in
+    let e : suc n ≡ length xs = omega arith in
+    let whole : take n xs ++ (get_or xs n 0 ∷ []) ≡ xs =
+    sym (take-suc xs n 0 (omega arith)) ∙ ap (λ k. take k xs) e ∙ take_all (length xs) xs (omega arith) in
+    ap (ends_in_cr cr) (sym whole) ∙ ends_next cr (take n xs) (get_or xs n 0)

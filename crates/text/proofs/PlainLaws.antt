@@ -60,9 +60,6 @@ each_row {from = from} {n} p q = let e : from + 2 + n - from ≡ 2 + n = omega a
 
 -- ---- cells that are not guarded
 
-pub free_suppressed : (suppressed : Bool) (attrs : List ℕ) (cell : ℕ) → suppressed ≡ true → guarded_at suppressed attrs cell ≡ false
-free_suppressed suppressed attrs cell e = rw e
-
 pub free_each : (suppressed : Bool) {attrs : List ℕ} {cell n k : ℕ} → Each unguarded attrs cell n → n ≤ length attrs - cell
     → k < n → guarded_at suppressed attrs (cell + k) ≡ false
 unfolding protected_at
@@ -164,9 +161,6 @@ module _ {joins cr : Bool} {bytes : List ℕ} {f₀ : Frame} {chars₀ attrs : L
       (record { frame = d.frame; characters = d.characters ∙ sym (overwritten v chars attrs one two) }))
 
 -- ---- steps
-
-pub step_none : {attrs bytes : List ℕ} {from : ℕ} {f : Frame} {chars : List ℕ} → TextStep attrs bytes from f chars from f chars
-step_none = record { on = λ joins cr f₀ chars₀ t. t }
 
 module _ {attrs bytes : List ℕ} {from at : ℕ} {g : Frame} {gs : List ℕ} {f : Frame} {chars : List ℕ}
     (s : TextStep attrs bytes from g gs at f chars) {end : ℕ} (p : Each printable bytes from (end - from)) (a : from ≤ at) (h : at < end)

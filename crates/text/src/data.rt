@@ -16,6 +16,7 @@ use command::character::is_printable;
 use command::frame::{cursor_cell, moved};
 use decide::text::{Fate, control, write_host};
 use edit::text::copy_text;
+use pad::ascii::LF;
 use rules::Frame;
 use screen::cell::{Column, Place};
 
@@ -29,14 +30,12 @@ pub fn set_cell(chars: &mut [u8], cell: usize, byte: u8)
 }
 
 // One character from the host: the cursor after it.
-#[tactic(auto, using(crate::proofs::WriteLaws::unwritten, crate::proofs::WriteLaws::written))]
 pub fn put_character(frame: Frame, byte: u8, chars: &mut [u8], attrs: &[u8]) -> Place
     ensures { Changes (host_character (seen frame attrs.now) byte)
         chars.old attrs.now (placed frame result) chars.new }
 {
     let writing = write_host(frame, attrs, byte);
-    let fate = writing.fate;
-    let Fate::Written = fate else {
+    let Fate::Written = writing.fate else {
         return frame.cursor;
     };
     set_cell(chars, cursor_cell(frame), byte);
@@ -44,13 +43,12 @@ pub fn put_character(frame: Frame, byte: u8, chars: &mut [u8], attrs: &[u8]) -> 
 }
 
 // One byte of host data: the cursor after it.
-#[tactic(auto, using(crate::proofs::WriteLaws::unprinted), unfolding(rules::specs::Telnet::host_data))]
+#[tactic(auto, unfolding(rules::specs::Telnet::host_data))]
 pub fn take_data(frame: Frame, byte: u8, chars: &mut [u8], attrs: &[u8]) -> Place
     ensures { Changes (host_data (seen frame attrs.now) byte)
         chars.old attrs.now (placed frame result) chars.new }
 {
-    let text = is_printable(byte);
-    if text {
+    if is_printable(byte) {
         return put_character(frame, byte, chars, attrs);
     }
     control(frame, byte)
@@ -61,15 +59,13 @@ fn gone_right(frame: Frame, count: usize) -> Place
     requires { frame.cursor.x.0 + count < frame.width }
     ensures { result ≡ place (frame.cursor.x.0 + count) frame.cursor.y.0 }
 {
-    let y = frame.cursor.y;
     Place {
         x: Column(frame.cursor.x.0 + count as u8),
-        y: y,
+        ..frame.cursor
     }
 }
 
 // Characters that stand in a row: the cursor after them. As many as can go into their cells by one copy.
-#[tactic(auto, using(crate::proofs::PlainLaws::step_none, crate::proofs::PlainLaws::step_copied, crate::proofs::PlainLaws::step_last))]
 fn put_text(
     frame: Frame,
     bytes: &[u8],
@@ -101,18 +97,13 @@ fn put_text(
 }
 
 // What is no character, at a place of the data: the cursor after it. No byte but an LF asks whether it is passed over.
-#[tactic(auto, using(crate::proofs::JoinedLaws::not_passed))]
 fn obey_control(frame: Frame, joins: bool, cr: bool, bytes: &[u8], at: usize) -> Place
     requires { at < length bytes.now }
     ensures { (attrs : List ℕ)
         → control_at (view frame attrs) joins cr bytes.now at ≡ quiet (view (placed frame result) attrs) }
 {
     let byte = bytes[at];
-    if byte != 10 {
-        return control(frame, byte);
-    }
-    let passed = is_joined(joins, cr, bytes, at);
-    if passed {
+    if byte == LF && is_joined(joins, cr, bytes, at) {
         return frame.cursor;
     }
     control(frame, byte)
@@ -137,14 +128,12 @@ pub fn host_text(
     while at < bytes.len() {
         let byte = bytes[at];
         let now = moved(frame, cursor);
-        let text = is_printable(byte);
-        if !text {
+        if !is_printable(byte) {
             cursor = obey_control(now, joins, cr, bytes, at);
             at += 1;
             continue;
         }
-        let more = character_at(bytes, at + 1);
-        if !more {
+        if !character_at(bytes, at + 1) {
             cursor = put_character(now, byte, chars, attrs);
             at += 1;
             continue;

@@ -2,24 +2,17 @@
 ghost use Rattle.std.specs.Prelude.{◌≡◌, ◌&&◌, ◌≤◌, length, take};
 ghost use Rattle.text.specs.Text.{ends_in_cr};
 
-// Did a CR come last before this place? Before the first byte, as it was.
-#[tactic(auto, using(crate::proofs::JoinedLaws::ends_none, crate::proofs::JoinedLaws::ends_last))]
-fn after_cr(cr: bool, bytes: &[u8], at: usize) -> bool
-    requires { at ≤ length bytes.now }
-    ensures { result ≡ ends_in_cr cr (take at bytes.now) }
-{
-    if at == 0 {
-        return cr;
-    }
-    bytes[at - 1] == 13
-}
+use pad::ascii::CR;
 
 // Is the last byte a CR? Where there is none, as before.
-#[tactic(auto, using(crate::proofs::JoinedLaws::ends_all))]
+#[tactic(auto, using(crate::proofs::JoinedLaws::ends_none, crate::proofs::JoinedLaws::ends_last))]
 pub fn ends_in_cr(cr: bool, bytes: &[u8]) -> bool
     ensures { result ≡ ends_in_cr cr bytes.now }
 {
-    after_cr(cr, bytes, bytes.len())
+    match bytes {
+        [.., last] => *last == CR,
+        [] => cr,
+    }
 }
 
 // Is an LF at this place passed over?
@@ -27,8 +20,5 @@ pub(crate) fn is_joined(joins: bool, cr: bool, bytes: &[u8], at: usize) -> bool
     requires { at ≤ length bytes.now }
     ensures { result ≡ (joins && ends_in_cr cr (take at bytes.now)) }
 {
-    if joins {
-        return after_cr(cr, bytes, at);
-    }
-    false
+    joins && ends_in_cr(cr, &bytes[..at])
 }

@@ -1,6 +1,6 @@
 // Characters from the host, decided: how many stand in the input in a row, and how many of them go into their cells by one copy. The
 // loops of constant length have one way out, so that the compiler tests sixteen bytes at once.
-ghost use Rattle.std.specs.Prelude.{◌≡◌, true, ◌&&◌, ◌+◌, ◌-◌, ◌≤◌, ◌<◌, length, get_or};
+ghost use Rattle.std.specs.Prelude.{Bool, ℕ, ◌≡◌, true, ◌&&◌, ◌+◌, ◌-◌, ◌≤◌, ◌<◌, length, get_or};
 ghost use Rattle.screen.specs.Cells.{cell_of};
 ghost use Rattle.rules.specs.Session.{printable};
 ghost use Rattle.rules.specs.Cursor.{next_cell};
@@ -12,118 +12,56 @@ use command::frame::{cursor_cell, cursor_guarded};
 use rules::Frame;
 use screen::attribute::protection;
 
-fn both(a: bool, b: bool) -> bool
-    ensures { result ≡ (a && b) }
-{
-    if a { b } else { false }
+// A test on bytes.
+trait Test {
+    ghost passed: { ℕ → Bool };
+
+    fn passes(byte: u8) -> bool
+        ensures { result ≡ passed byte };
 }
 
-fn least(a: usize, b: usize) -> usize
-    ensures { (result ≤ a) × (result ≤ b) }
-{
-    if a < b { a } else { b }
-}
+// Is it a character?
+struct Printable;
 
-// None below 0.
-fn minus(a: usize, b: usize) -> usize
-    ensures { result ≡ a - b }
-{
-    if b < a { a - b } else { 0 }
-}
+impl Test for Printable {
+    ghost passed = { printable };
 
-// ---- characters in a row
-
-// Does one stand there?
-#[tactic(auto, using(words::proofs::Laws::not_both))]
-pub(crate) fn character_at(bytes: &[u8], at: usize) -> bool
-    ensures { result ≡ true → (at < length bytes.now) × (printable (get_or bytes.now at 0) ≡ true) }
-{
-    if at < bytes.len() {
-        return is_printable(bytes[at]);
+    fn passes(byte: u8) -> bool {
+        is_printable(byte)
     }
-    false
 }
 
-fn sixteen_characters(bytes: &[u8], from: usize) -> bool
+// As the attribute byte of a cell: is the cell not protected?
+struct Unguarded;
+
+impl Test for Unguarded {
+    ghost passed = { unguarded };
+
+    fn passes(byte: u8) -> bool {
+        protection(byte) != 1
+    }
+}
+
+// ---- bytes in a row that pass a test
+
+fn sixteen<T: Test>(bytes: &[u8], from: usize) -> bool
     requires { from + 16 ≤ length bytes.now }
-    ensures { result ≡ true → Each printable bytes.now from 16 }
+    ensures { result ≡ true → Each T.passed bytes.now from 16 }
 {
     let mut all = true;
-    let mut i = 0;
-    while i < 16 {
-        let one = is_printable(bytes[from + i]);
-        all = both(all, one);
-        i += 1;
+    for i in 0..16 {
+        all &= T::passes(bytes[from + i]);
     }
     all
 }
 
-#[tactic(auto, using(crate::proofs::PlainLaws::each_none, crate::proofs::PlainLaws::each_on))]
-fn by_sixteens(bytes: &[u8], from: usize) -> usize
-    requires { from ≤ length bytes.now }
-    ensures { (from + result ≤ length bytes.now) × Each printable bytes.now from result }
+#[tactic(auto, using(crate::proofs::PlainLaws::each_on))]
+fn by_sixteens<T: Test>(bytes: &[u8], from: usize, most: usize) -> usize
+    requires { most ≤ length bytes.now - from }
+    ensures { (result ≤ most) × Each T.passed bytes.now from result }
 {
     let mut n = 0;
-    while 16 <= bytes.len() - from - n {
-        let all = sixteen_characters(bytes, from + n);
-        if !all {
-            break;
-        }
-        n += 16;
-    }
-    n
-}
-
-// How many stand there in a row.
-#[tactic(auto, using(screen::proofs::TestLaws::passing, crate::proofs::PlainLaws::each_next))]
-pub(crate) fn count_characters(bytes: &[u8], from: usize) -> usize
-    requires { from ≤ length bytes.now }
-    ensures { (from + result ≤ length bytes.now) × Each printable bytes.now from result }
-{
-    let mut n = by_sixteens(bytes, from);
-    while n < bytes.len() - from {
-        let text = is_printable(bytes[from + n]);
-        if !text {
-            break;
-        }
-        n += 1;
-    }
-    n
-}
-
-// ---- cells in a row that are not guarded
-
-fn is_unguarded(attr: u8) -> bool
-    ensures { result ≡ unguarded attr }
-{
-    protection(attr) != 1
-}
-
-fn sixteen_unguarded(attrs: &[u8], cell: usize) -> bool
-    requires { cell + 16 ≤ length attrs.now }
-    ensures { result ≡ true → Each unguarded attrs.now cell 16 }
-{
-    let mut all = true;
-    let mut i = 0;
-    while i < 16 {
-        let one = is_unguarded(attrs[cell + i]);
-        all = both(all, one);
-        i += 1;
-    }
-    all
-}
-
-#[tactic(auto, using(crate::proofs::PlainLaws::each_none, crate::proofs::PlainLaws::each_on))]
-fn unguarded_sixteens(attrs: &[u8], cell: usize, most: usize) -> usize
-    requires { most ≤ length attrs.now - cell }
-    ensures { (result ≤ most) × Each unguarded attrs.now cell result }
-{
-    let mut n = 0;
-    while 16 <= most - n {
-        let all = sixteen_unguarded(attrs, cell + n);
-        if !all {
-            break;
-        }
+    while 16 <= most - n && sixteen::<T>(bytes, from + n) {
         n += 16;
     }
     n
@@ -131,74 +69,79 @@ fn unguarded_sixteens(attrs: &[u8], cell: usize, most: usize) -> usize
 
 // The last sixteen, some of them tested twice, stand for the rest.
 #[tactic(auto, using(crate::proofs::PlainLaws::each_on))]
-fn unguarded_ends(attrs: &[u8], cell: usize, most: usize) -> usize
-    requires { most ≤ length attrs.now - cell }
-    ensures { (result ≤ most) × Each unguarded attrs.now cell result }
+fn by_ends<T: Test>(bytes: &[u8], from: usize, most: usize) -> usize
+    requires { most ≤ length bytes.now - from }
+    ensures { (result ≤ most) × Each T.passed bytes.now from result }
 {
-    let n = unguarded_sixteens(attrs, cell, most);
-    if most < 16 {
-        return n;
-    }
-    if most - n < 16 {
-        let rest = sixteen_unguarded(attrs, cell + (most - 16));
-        if rest {
-            return most;
-        }
+    let n = by_sixteens::<T>(bytes, from, most);
+    if 16 <= most && most - n < 16 && sixteen::<T>(bytes, from + (most - 16)) {
+        return most;
     }
     n
 }
 
-#[tactic(auto, using(screen::proofs::TestLaws::passing, crate::proofs::PlainLaws::each_next))]
-fn count_unguarded(attrs: &[u8], cell: usize, most: usize) -> usize
-    requires { most ≤ length attrs.now - cell }
-    ensures { (result ≤ most) × Each unguarded attrs.now cell result }
+// How many, at most `most`.
+#[tactic(auto, using(crate::proofs::PlainLaws::each_next))]
+fn count<T: Test>(bytes: &[u8], from: usize, most: usize) -> usize
+    requires { most ≤ length bytes.now - from }
+    ensures { (result ≤ most) × Each T.passed bytes.now from result }
 {
-    let mut n = unguarded_ends(attrs, cell, most);
-    while n < most {
-        let one = is_unguarded(attrs[cell + n]);
-        if !one {
-            break;
-        }
+    let mut n = by_ends::<T>(bytes, from, most);
+    while n < most && T::passes(bytes[from + n]) {
         n += 1;
     }
     n
 }
+
+// ---- characters in a row
+
+// Does one stand there?
+pub(crate) fn character_at(bytes: &[u8], at: usize) -> bool
+    ensures { result ≡ true → (at < length bytes.now) × (printable (get_or bytes.now at 0) ≡ true) }
+{
+    bytes.get(at).is_some_and(|byte| is_printable(*byte))
+}
+
+// How many stand there in a row.
+pub(crate) fn count_characters(bytes: &[u8], from: usize) -> usize
+    requires { from ≤ length bytes.now }
+    ensures { (from + result ≤ length bytes.now) × Each printable bytes.now from result }
+{
+    count::<Printable>(bytes, from, bytes.len() - from)
+}
+
+// ---- cells in a row that are not guarded
 
 // Those before the last cell of the cursor's line, and before the end of `cells` cells.
 fn room_on_line(frame: Frame, cells: usize) -> usize
     ensures { (result ≤ frame.width - (frame.cursor.x.0 + 1)) × (result ≤ cells - cell_of frame.width frame.cursor) }
 {
     let x = frame.cursor.x.0 as usize;
-    least(
-        minus(frame.width as usize, x + 1),
-        minus(cells, cursor_cell(frame)),
-    )
+    let line = (frame.width as usize).saturating_sub(x + 1);
+    line.min(cells.saturating_sub(cursor_cell(frame)))
 }
 
 // How many characters, at most `most`, go into their cells by one copy: from the cursor on, before the last cell of its line, on a
 // screen of `cells` cells.
-#[tactic(auto, using(crate::proofs::PlainLaws::free_suppressed, crate::proofs::PlainLaws::free_each))]
+#[tactic(auto, using(crate::proofs::PlainLaws::free_each))]
 pub(crate) fn open_run(frame: Frame, attrs: &[u8], cells: usize, most: usize) -> usize
     ensures { OpenRun frame attrs.now cells most result }
 {
-    let room = room_on_line(frame, least(cells, attrs.len()));
-    let few = least(room, most);
+    let few = room_on_line(frame, cells.min(attrs.len())).min(most);
     if frame.suppressed {
         return few;
     }
-    count_unguarded(attrs, cursor_cell(frame), few)
+    count::<Unguarded>(attrs, cursor_cell(frame), few)
 }
 
 // ---- where the cursor stays
 
-#[tactic(auto, using(words::proofs::Laws::not_both, crate::proofs::PlainLaws::last_cell))]
+#[tactic(auto, using(crate::proofs::PlainLaws::last_cell))]
 fn at_last_cell(frame: Frame) -> bool
     ensures { result ≡ true → next_cell frame ≡ frame.cursor }
 {
-    if frame.cursor.x.0 as usize + 1 < frame.width as usize {
-        return false;
-    }
-    frame.height as usize <= frame.cursor.y.0 as usize + 1
+    let at = frame.cursor;
+    frame.width as usize <= at.x.0 as usize + 1 && frame.height as usize <= at.y.0 as usize + 1
 }
 
 // Of the characters from `at` up to the answer only the last counts. On a guarded cell all are lost; at the screen's last cell each takes
@@ -208,12 +151,7 @@ pub(crate) fn last_counts(frame: Frame, attrs: &[u8], at: usize, end: usize) -> 
     requires { at < end }
     ensures { LastCounts (seen frame attrs.now) at end result }
 {
-    let guarded = cursor_guarded(frame, attrs);
-    if guarded {
-        return end;
-    }
-    let stays = at_last_cell(frame);
-    if stays {
+    if cursor_guarded(frame, attrs) || at_last_cell(frame) {
         return end;
     }
     at + 1

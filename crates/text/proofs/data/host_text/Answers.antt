@@ -5,16 +5,16 @@ use Rattle.text.proofs.data.host_text.Goals as goal
 pub loop-at-init : goal.loop-at-init
 loop-at-init c = (texted_none _ c.args.joins c.args.cr c.args.bytes.now _ _, refl)
 
-pub loop-at-preserved-then-not-text : goal.loop-at-preserved-then-not-text
-loop-at-preserved-then-not-text c = (
-  texted_control c.loop-at.invariant.0 c.loop-at-test.true (sym c.is_printable-text.ensures ∙ c.if-not-text.true)
+pub loop-at-preserved-then-not-is_printable : goal.loop-at-preserved-then-not-is_printable
+loop-at-preserved-then-not-is_printable c = (
+  texted_control c.loop-at.invariant.0 c.loop-at-test.true (sym c.is_printable.ensures ∙ c.if-not-is_printable.true)
       (rw c.moved-now.ensures at c.obey_control-cursor.ensures _),
   search rules,
 )
 
-pub loop-at-preserved-then-not-more : goal.loop-at-preserved-then-not-more
-loop-at-preserved-then-not-more c = (
-  texted_character c.loop-at.invariant.0 c.loop-at-test.true (sym c.is_printable-text.ensures ∙ c.if-not-text.false)
+pub loop-at-preserved-then-not-character_at : goal.loop-at-preserved-then-not-character_at
+loop-at-preserved-then-not-character_at c = (
+  texted_character c.loop-at.invariant.0 c.loop-at-test.true (sym c.is_printable.ensures ∙ c.if-not-is_printable.false)
       (rw c.moved-now.ensures at c.put_character-cursor.ensures),
   search rules,
 )

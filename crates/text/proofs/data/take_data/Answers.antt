@@ -3,4 +3,4 @@ use Rattle.text.proofs.WriteLaws.{unprinted}
 use Rattle.text.proofs.data.take_data.Goals as goal
 
 pub returns : goal.returns
-returns c = unprinted _ _ (sym c.is_printable-text.ensures ∙ c.if-text.false) (c.control.ensures _)
+returns c = unprinted _ _ (sym c.is_printable.ensures ∙ c.if-is_printable.false) (c.control.ensures _)

@@ -34,12 +34,11 @@ fn framed(out: &mut Sink, frame: &Frame) -> io::Result<()> {
     let cursor = frame.cursor;
     write!(
         out,
-        " {} {} {} {}",
-        frame.width, frame.height, cursor.x.0, cursor.y.0
-    )?;
-    write!(
-        out,
-        " {} {}",
+        " {} {} {} {} {} {}",
+        frame.width,
+        frame.height,
+        cursor.x.0,
+        cursor.y.0,
         u8::from(frame.det),
         u8::from(frame.suppressed)
     )

@@ -144,7 +144,7 @@ module _ {input : List ℕ} {phase : Phase} {at : ℕ} {tally : Tally} (c : Coun
       let t = stretch_tells input at phase inside in
       let l = stretch_lies input at phase h in
       let fit : total (tally_of t.told) ≤ (stretch_of phase input at).next - at =
-          rw (t.adds, total_stretched) (omega (arith, l.onward, l.forth)) in
+      rw (t.adds, total_stretched) (omega (arith, l.onward, l.forth)) in
       rw (e, ← t.adds) (further (onward input at (omega (arith, l.further)) t.reads) fit (omega (arith, l.further)))
 
   -- a whole subnegotiation, which adds its length to one count and itself to another

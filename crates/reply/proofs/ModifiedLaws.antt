@@ -10,7 +10,8 @@ use lib.ListN.{length}
 use Rattle.screen.specs.Fields.{opens_at, first_from, field_end}
 use Rattle.screen.proofs.WordLaws.{first_passes, first_past, first_above, first_below}
 use Rattle.screen.proofs.FieldLaws.{end_gt, end_le, none_opens}
-use Rattle.reply.specs.Written.{Wrote}
+use Rattle.reply.specs.declared.bytes.Reply.{Reply}
+use Rattle.reply.specs.Inner.Puts.{Puts}
 use Rattle.reply.specs.Pieces.{marked_pieces, modified_pieces}
 use Rattle.reply.proofs.WriteLaws.{Writing, writing_start, writing_more, writing_all}
 
@@ -66,28 +67,28 @@ module _ (code width : ℕ) (chars attrs marks : List ℕ) where
       from_open cell h o ∙ rw (rest, there, ← e, from_next end (omega (arith, high, e)) f)
 
   -- of the fields, those that open before the cell are written, and the next opens at the cell or none does
-  pub record Modifying (buf : List ℕ) (at : ℕ) (buf₁ : List ℕ) (at₁ cell : ℕ) : Type 0 where
-    pub writing : Writing buf at (modified_pieces code width chars attrs marks 0 (length attrs)) buf₁ at₁ (from cell)
+  pub record Modifying (r r₁ : Reply) (cell : ℕ) : Type 0 where
+    pub writing : Writing r (modified_pieces code width chars attrs marks 0 (length attrs)) r₁ (from cell)
     pub opens : cell < length attrs → opens_at attrs cell ≡ true
 
   opens_next : (cell : ℕ) {next : ℕ} → next ≡ first_from (opens_at attrs) attrs cell (length attrs) → next < length attrs → opens_at attrs next ≡ true
   opens_next cell e l = rw e (first_passes (opens_at attrs) (length attrs) cell (length attrs - cell) (rw (← e) l))
 
-module _ {code width : ℕ} {chars attrs marks buf : List ℕ} {at : ℕ} where
-  pub modifying_start : {cell : ℕ} → cell ≡ first_from (opens_at attrs) attrs 0 (length attrs) → Modifying code width chars attrs marks buf at buf at cell
+module _ {code width : ℕ} {chars attrs marks : List ℕ} {r : Reply} where
+  pub modifying_start : {cell : ℕ} → cell ≡ first_from (opens_at attrs) attrs 0 (length attrs) → Modifying code width chars attrs marks r r cell
   modifying_start e = record {
     writing = rw (← from_next code width chars attrs marks 0 (omega arith) e, sub-zero) writing_start;
     opens = opens_next code width chars attrs marks 0 e;
   }
 
-  module _ {buf₁ : List ℕ} {at₁ cell : ℕ} (m : Modifying code width chars attrs marks buf at buf₁ at₁ cell) where
-    pub modifying_more : cell < length attrs → {end next : ℕ} {buf₂ : List ℕ} {at₂ : ℕ} → end ≡ field_end attrs cell
-        → Wrote buf₁ at₁ (marked_pieces code width chars marks cell end) buf₂ at₂ → next ≡ first_from (opens_at attrs) attrs end (length attrs)
-        → Modifying code width chars attrs marks buf at buf₂ at₂ next
+  module _ {r₁ : Reply} {cell : ℕ} (m : Modifying code width chars attrs marks r r₁ cell) where
+    pub modifying_more : cell < length attrs → {end next : ℕ} {r₂ : Reply} → end ≡ field_end attrs cell
+        → Puts r₁ (marked_pieces code width chars marks cell end) r₂ → next ≡ first_from (opens_at attrs) attrs end (length attrs)
+        → Modifying code width chars attrs marks r r₂ next
     modifying_more h {end} e w f = record {
       writing = writing_more m.writing (from_field code width chars attrs marks cell h (m.opens h) e f) w;
       opens = opens_next code width chars attrs marks end f;
     }
 
-    pub modifying_all : length attrs ≤ cell → Wrote buf at (modified_pieces code width chars attrs marks 0 (length attrs)) buf₁ at₁
+    pub modifying_all : length attrs ≤ cell → Puts r (modified_pieces code width chars attrs marks 0 (length attrs)) r₁
     modifying_all h = writing_all m.writing (from_end code width chars attrs marks cell h)

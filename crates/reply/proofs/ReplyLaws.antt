@@ -32,6 +32,8 @@ use Rattle.decide.specs.Decision.{parts_of, Sendable}
 use Rattle.reply.specs.Written.{Buffer, buffer, wrote_all, Wrote}
 use Rattle.rules.specs.Number.{det_option, x3_option, data_transmit, field_separator}
 use Rattle.reply.specs.Pieces.{doubled_pieces, message_pieces, preface_pieces, text_piece, field_pieces, modified_pieces, say_pieces}
+use Rattle.reply.specs.declared.bytes.Reply.{Reply}
+use Rattle.reply.specs.Inner.Puts.{Puts}
 use Rattle.reply.specs.Inner.Reply.{Sayable}
 use Rattle.reply.proofs.WriteLaws.{whole, wrote_by}
 
@@ -56,9 +58,13 @@ wrote_emitted {buf} {at} ps room w =
     record { next = ap (λ (b : Buffer). b.next) e; stored = ap (λ (b : Buffer). b.bytes) e }
 
 -- where there is room, other pieces with the same bytes
-pub wrote_as : {buf : List ℕ} {at : ℕ} (ps qs : List (List ℕ)) {buf₁ : List ℕ} {at₁ : ℕ} → joined ps ≡ joined qs → Room buf at (joined qs)
+wrote_as : {buf : List ℕ} {at : ℕ} (ps qs : List (List ℕ)) {buf₁ : List ℕ} {at₁ : ℕ} → joined ps ≡ joined qs → Room buf at (joined qs)
     → Wrote buf at ps buf₁ at₁ → Wrote buf at qs buf₁ at₁
 wrote_as {buf} {at} ps qs e room w = wrote_by (whole w ∙ all_fit ps buf at (rw e room) ∙ rw e (sym (all_fit qs buf at room)))
+
+pub puts_as : {r : Reply} (ps qs : List (List ℕ)) {r₁ : Reply} → joined ps ≡ joined qs → Room r.buffer.now r.at (joined ps)
+    → Puts r ps r₁ → Puts r qs r₁
+puts_as {r} ps qs e room p = record { same_buffer = p.same_buffer; wrote = wrote_as ps qs e (subst (λ l. Room r.buffer.now r.at l) e room) p.wrote }
 
 joined_append : (ps qs : List (List ℕ)) → joined (ps ++ qs) ≡ joined ps ++ joined qs
 joined_append [] qs = refl

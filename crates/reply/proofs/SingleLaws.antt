@@ -14,7 +14,8 @@ use Rattle.screen.specs.Attributes.{protection, protected_at}
 use Rattle.screen.specs.Fields.{starts_at, opens_at, field_end}
 use Rattle.words.proofs.Laws.{less_or_not, not_both, and_left, get_d-within}
 use Rattle.screen.proofs.WordLaws.{first_hit}
-use Rattle.reply.specs.Written.{Wrote}
+use Rattle.reply.specs.declared.bytes.Reply.{Reply}
+use Rattle.reply.specs.Inner.Puts.{Puts}
 use Rattle.reply.specs.Pieces.{doubled_pieces, text_piece, separator_pieces, field_pieces}
 use Rattle.reply.specs.Inner.Single.{single_pieces, EachOpens, Singles}
 use Rattle.reply.proofs.WriteLaws.{Writing, writing_start, writing_more, writing_length, writing_all, WritingTo}
@@ -71,23 +72,23 @@ unfolding single_pieces
 ones_past code chars cell n i h = let e : n - i ≡ 0 = omega arith in rw (e, single_pieces)
 
 -- of n of them, i are written
-pub record WritingSingles (code n : ℕ) (buf : List ℕ) (at : ℕ) (chars : List ℕ) (cell : ℕ) (buf₁ : List ℕ) (at₁ i : ℕ) : Type 0 where
-  pub next : at₁ ≡ at + i * 7
-  pub writing : Writing buf at (single_pieces code chars cell n) buf₁ at₁ (single_pieces code chars (cell + i) (n - i))
+pub record WritingSingles (code n : ℕ) (r : Reply) (chars : List ℕ) (cell : ℕ) (r₁ : Reply) (i : ℕ) : Type 0 where
+  pub next : r₁.at ≡ r.at + i * 7
+  pub writing : Writing r (single_pieces code chars cell n) r₁ (single_pieces code chars (cell + i) (n - i))
 
-pub ones_start : {code n : ℕ} {buf : List ℕ} {at : ℕ} {chars : List ℕ} {cell : ℕ} → WritingSingles code n buf at chars cell buf at 0
+pub ones_start : {code n : ℕ} {r : Reply} {chars : List ℕ} {cell : ℕ} → WritingSingles code n r chars cell r 0
 ones_start {n = n} = record { next = omega arith; writing = rw (add-zero, sub-zero) writing_start }
 
-module _ {code n : ℕ} {buf : List ℕ} {at : ℕ} {chars : List ℕ} {cell : ℕ} {buf₁ : List ℕ} {at₁ i : ℕ} (w : WritingSingles code n buf at chars cell buf₁ at₁ i) where
-  pub ones_length : length buf₁ ≡ length buf
+module _ {code n : ℕ} {r : Reply} {chars : List ℕ} {cell : ℕ} {r₁ : Reply} {i : ℕ} (w : WritingSingles code n r chars cell r₁ i) where
+  pub ones_length : length r₁.buffer.now ≡ length r.buffer.now
   ones_length = writing_length w.writing
 
-  pub ones_more : i < n → {buf₂ : List ℕ} {at₂ : ℕ}
-      → (at₂ ≡ at₁ + 7) × Wrote buf₁ at₁ (separator_pieces code false ++ (text_piece (cell + i) (cell + i + 1) chars ∷ [])) buf₂ at₂
-      → WritingSingles code n buf at chars cell buf₂ at₂ (i + 1)
+  pub ones_more : i < n → {r₂ : Reply}
+      → (r₂.at ≡ r₁.at + 7) × Puts r₁ (separator_pieces code false ++ (text_piece (cell + i) (cell + i + 1) chars ∷ [])) r₂
+      → WritingSingles code n r chars cell r₂ (i + 1)
   ones_more h p = record { next = omega (arith, p.0, w.next); writing = writing_more w.writing (one_at code chars cell n i h) p.1 }
 
-  pub ones_all : n ≤ i → Wrote buf at (single_pieces code chars cell n) buf₁ at₁
+  pub ones_all : n ≤ i → Puts r (single_pieces code chars cell n) r₁
   ones_all h = writing_all w.writing (ones_past code chars cell n i h)
 
 -- the fields from a cell on are these, and then the rest
@@ -110,13 +111,13 @@ one_text chars cell h =
     rw (le-leb cell (cell + 1) (omega arith), le-leb (cell + 1) (length chars) (omega arith), one, drop-cons chars cell 0 h)
 
 -- so they are written
-module _ {code : ℕ} {buf : List ℕ} {at : ℕ} {chars attrs buf₁ : List ℕ} {at₁ : ℕ} {first : Bool} {cell : ℕ} where
-  pub to_after : WritingTo code buf at chars attrs buf₁ at₁ first cell → {n room : ℕ} → Singles n attrs room cell at₁ first → {buf₂ : List ℕ} {at₂ : ℕ}
-      → Wrote buf₁ at₁ (single_pieces code chars cell 32) buf₂ at₂ → WritingTo code buf at chars attrs buf₂ at₂ first (cell + 32)
-  to_after s r w =
-      let o = s.opens (omega (arith, r.cells)) in
-      let split = ones_split code chars attrs 32 cell (omega (arith, r.cells)) o r.after in
+module _ {code : ℕ} {r : Reply} {chars attrs : List ℕ} {r₁ : Reply} {first : Bool} {cell : ℕ} where
+  pub to_after : WritingTo code r chars attrs r₁ first cell → {n room : ℕ} → Singles n attrs room cell r₁.at first → {r₂ : Reply}
+      → Puts r₁ (single_pieces code chars cell 32) r₂ → WritingTo code r chars attrs r₂ first (cell + 32)
+  to_after s p w =
+      let o = s.opens (omega (arith, p.cells)) in
+      let split = ones_split code chars attrs 32 cell (omega (arith, p.cells)) o p.after in
       record {
-        fields = record { writing = writing_more s.fields.writing (rw r.later split) w };
-        opens = λ l. r.after.opens (cell + 32) (omega arith) (omega arith);
+        fields = record { writing = writing_more s.fields.writing (rw p.later split) w };
+        opens = λ l. p.after.opens (cell + 32) (omega arith) (omega arith);
       }

@@ -16,8 +16,10 @@ use Rattle.words.proofs.Laws.{either, true_or_false}
 use Rattle.screen.proofs.WordLaws.{first_passes, first_past, first_above, first_below}
 use Rattle.screen.proofs.FieldLaws.{end_gt, end_le, none_opens}
 use Rattle.edit.proofs.EditLaws.{text_length}
-use Rattle.edit.proofs.EditLaws.{copied_whole as copied-there}
+use Rattle.edit.proofs.EditLaws.{copied_whole}
 use Rattle.reply.specs.Written.{Buffer, buffer, wrote_one, wrote_all, Wrote}
+use Rattle.reply.specs.declared.bytes.Reply.{Reply}
+use Rattle.reply.specs.Inner.Puts.{Puts}
 use Rattle.reply.specs.Pieces.{doubled_pieces, text_piece, separator_pieces, field_pieces}
 
 -- the buffer and the next place at once
@@ -58,23 +60,34 @@ wrote_length {ps = ps} p = ap length p.stored ∙ all_length ps _
 
 -- ---- a total that is written part by part
 
+pub puts_none : {r : Reply} → Puts r [] r
+puts_none = record { same_buffer = refl; wrote = wrote_none }
+
+pub puts_then : {r : Reply} {ps : List (List ℕ)} {r₁ : Reply} {qs : List (List ℕ)} {r₂ : Reply} → Puts r ps r₁ → Puts r₁ qs r₂ → Puts r (ps ++ qs) r₂
+puts_then p q = record { same_buffer = q.same_buffer ∙ p.same_buffer; wrote = wrote_then p.wrote q.wrote }
+
+-- what the lent buffer holds in the end
+pub puts_end : {r : Reply} {ps : List (List ℕ)} {r₁ : Reply} {buf : List ℕ} → Puts r ps r₁
+    → (r.buffer.ghost_name ≡ r₁.buffer.ghost_name → buf ≡ r₁.buffer.now) → Wrote r.buffer.now r.at ps buf r₁.at
+puts_end p e = rw (e (sym p.same_buffer)) p.wrote
+
 -- of the total, all but the rest has been written
-pub record Writing (buf : List ℕ) (at : ℕ) (total : List (List ℕ)) (buf₁ : List ℕ) (at₁ : ℕ) (rest : List (List ℕ)) : Type 0 where
+pub record Writing (r : Reply) (total : List (List ℕ)) (r₁ : Reply) (rest : List (List ℕ)) : Type 0 where
   pub done : List (List ℕ)
   pub split : total ≡ done ++ rest
-  pub written : Wrote buf at done buf₁ at₁
+  pub written : Puts r done r₁
 
-pub writing_start : {buf : List ℕ} {at : ℕ} {total : List (List ℕ)} → Writing buf at total buf at total
-writing_start = record { done = []; split = refl; written = wrote_none }
+pub writing_start : {r : Reply} {total : List (List ℕ)} → Writing r total r total
+writing_start = record { done = []; split = refl; written = puts_none }
 
-module _ {buf : List ℕ} {at : ℕ} {total : List (List ℕ)} {buf₁ : List ℕ} {at₁ : ℕ} {rest : List (List ℕ)} (w : Writing buf at total buf₁ at₁ rest) where
-  pub writing_length : length buf₁ ≡ length buf
-  writing_length = wrote_length w.written
+module _ {r : Reply} {total : List (List ℕ)} {r₁ : Reply} {rest : List (List ℕ)} (w : Writing r total r₁ rest) where
+  pub writing_length : length r₁.buffer.now ≡ length r.buffer.now
+  writing_length = wrote_length w.written.wrote
 
-  pub writing_more : {xs ys : List (List ℕ)} {buf₂ : List ℕ} {at₂ : ℕ} → rest ≡ xs ++ ys → Wrote buf₁ at₁ xs buf₂ at₂ → Writing buf at total buf₂ at₂ ys
-  writing_more {xs} {ys} e q = record { done = w.done ++ xs; split = w.split ∙ rw (e, append_assoc); written = wrote_then w.written q }
+  pub writing_more : {xs ys : List (List ℕ)} {r₂ : Reply} → rest ≡ xs ++ ys → Puts r₁ xs r₂ → Writing r total r₂ ys
+  writing_more {xs} {ys} e q = record { done = w.done ++ xs; split = w.split ∙ rw (e, append_assoc); written = puts_then w.written q }
 
-  pub writing_all : rest ≡ [] → Wrote buf at total buf₁ at₁
+  pub writing_all : rest ≡ [] → Puts r total r₁
   writing_all e = rw (w.split, e, append-nil) w.written
 
 -- ---- payloads
@@ -100,7 +113,7 @@ module _ {chars reply : List ℕ} {from end at : ℕ} {reply' : List ℕ} {at' :
       → buffer reply' at' ≡ buffer (sets reply at (text_of from end chars)) (at + (end - from))
   put_in t u =
       let long : length (text_of from end chars) ≡ end - from = text_length from end chars t in
-      let all = copied-there c (rw (t, u)) in
+      let all = copied_whole c (rw (t, u)) in
       let room : at + length (text_of from end chars) ≤ length reply = omega (arith, leb-true (at + (end - from)) (length reply) u, long) in
       let stored : reply' ≡ sets reply at (text_of from end chars) = all.0 ∙ sym (sets-eq (text_of from end chars) reply at room ∙ rw long) in
       λ i. buffer (stored i) (all.1 i)
@@ -114,31 +127,23 @@ module _ {chars reply : List ℕ} {from end at : ℕ} {reply' : List ℕ} {at' :
       (λ u. rw (t, text_length from end chars t, u) (left_out (rw (t, u)))))
       (λ t. left_out (rw t) ∙ rw (t, add-zero) (either (λ (b : Buffer). buffer reply at ≡ b) (leb at (length reply)) (λ u. refl) (λ u. refl))))
 
-whole_piece : (bytes : List ℕ) → text_piece 0 (length bytes) bytes ≡ bytes
-whole_piece bytes = rw (le-leb 0 (length bytes) (omega arith), le-leb (length bytes) (length bytes) (omega arith)) (take_all (length bytes - 0) bytes (omega arith))
-
--- bytes that were copied whole
-pub copied_whole : {bytes reply : List ℕ} {at : ℕ} {reply' : List ℕ} {at' : ℕ} → Copied bytes reply 0 (length bytes) at reply' at'
-    → Wrote reply at (bytes ∷ []) reply' at'
-copied_whole {bytes} c = rw (whole_piece bytes) at (copied_piece c)
-
 -- ---- fields
 
 -- of the fields, those that open before the cell are written
-pub record WritingFields (code : ℕ) (buf : List ℕ) (at : ℕ) (chars attrs buf₁ : List ℕ) (at₁ : ℕ) (first : Bool) (cell : ℕ) : Type 0 where
-  pub writing : Writing buf at (field_pieces code chars attrs true 0 (length attrs)) buf₁ at₁ (field_pieces code chars attrs first cell (length attrs - cell))
+pub record WritingFields (code : ℕ) (r : Reply) (chars attrs : List ℕ) (r₁ : Reply) (first : Bool) (cell : ℕ) : Type 0 where
+  pub writing : Writing r (field_pieces code chars attrs true 0 (length attrs)) r₁ (field_pieces code chars attrs first cell (length attrs - cell))
 
-pub fields_start : {code : ℕ} {buf : List ℕ} {at : ℕ} {chars attrs : List ℕ} → WritingFields code buf at chars attrs buf at true 0
+pub fields_start : {code : ℕ} {r : Reply} {chars attrs : List ℕ} → WritingFields code r chars attrs r true 0
 fields_start {attrs = attrs} = record { writing = rw (sub-zero (length attrs)) writing_start }
 
-module _ {code : ℕ} {buf : List ℕ} {at : ℕ} {chars attrs buf₁ : List ℕ} {at₁ : ℕ} {first : Bool} {cell : ℕ} (s : WritingFields code buf at chars attrs buf₁ at₁ first cell) where
+module _ {code : ℕ} {r : Reply} {chars attrs : List ℕ} {r₁ : Reply} {first : Bool} {cell : ℕ} (s : WritingFields code r chars attrs r₁ first cell) where
   module _ (within : cell < length attrs) where
     next : length attrs - cell ≡ suc (length attrs - (cell + 1))
     next = omega arith
 
-    pub fields_more : {buf₂ : List ℕ} {at₂ : ℕ} → opens_at attrs cell ≡ true
-        → Wrote buf₁ at₁ (separator_pieces code first ++ (text_piece cell (field_end attrs cell) chars ∷ [])) buf₂ at₂
-        → WritingFields code buf at chars attrs buf₂ at₂ false (cell + 1)
+    pub fields_more : {r₂ : Reply} → opens_at attrs cell ≡ true
+        → Puts r₁ (separator_pieces code first ++ (text_piece cell (field_end attrs cell) chars ∷ [])) r₂
+        → WritingFields code r chars attrs r₂ false (cell + 1)
     unfolding field_pieces
     fields_more opens p =
         let rest = field_pieces code chars attrs false (cell + 1) (length attrs - (cell + 1)) in
@@ -146,18 +151,18 @@ module _ {code : ℕ} {buf : List ℕ} {at : ℕ} {chars attrs buf₁ : List ℕ
         rw (next, field_pieces, opens, add-one, append_assoc) in
         record { writing = writing_more s.writing split p }
 
-    pub fields_skip : opens_at attrs cell ≡ false → WritingFields code buf at chars attrs buf₁ at₁ first (cell + 1)
+    pub fields_skip : opens_at attrs cell ≡ false → WritingFields code r chars attrs r₁ first (cell + 1)
     unfolding field_pieces
     fields_skip closed = record { writing = rw add-one (rw (next, field_pieces, closed, add-one) at s.writing) }
 
-  pub fields_all : length attrs ≤ cell → Wrote buf at (field_pieces code chars attrs true 0 (length attrs)) buf₁ at₁
+  pub fields_all : length attrs ≤ cell → Puts r (field_pieces code chars attrs true 0 (length attrs)) r₁
   unfolding field_pieces
   fields_all h = let e : length attrs - cell ≡ 0 = omega arith in writing_all s.writing (rw (e, field_pieces))
 
 -- n cells at which no field opens
-fields_skips : {code : ℕ} {buf : List ℕ} {at : ℕ} {chars attrs buf₁ : List ℕ} {at₁ : ℕ} {first : Bool} {cell : ℕ} (n : ℕ)
-    → WritingFields code buf at chars attrs buf₁ at₁ first cell → cell + n ≤ length attrs
-    → ((k : ℕ) → cell ≤ k → k < cell + n → opens_at attrs k ≡ false) → WritingFields code buf at chars attrs buf₁ at₁ first (cell + n)
+fields_skips : {code : ℕ} {r : Reply} {chars attrs : List ℕ} {r₁ : Reply} {first : Bool} {cell : ℕ} (n : ℕ)
+    → WritingFields code r chars attrs r₁ first cell → cell + n ≤ length attrs
+    → ((k : ℕ) → cell ≤ k → k < cell + n → opens_at attrs k ≡ false) → WritingFields code r chars attrs r₁ first (cell + n)
 fields_skips zero s h p = rw add-zero s
 fields_skips {cell = cell} (suc n) s h p =
     let e : cell + suc n ≡ cell + n + 1 = omega arith in
@@ -165,13 +170,13 @@ fields_skips {cell = cell} (suc n) s h p =
     rw e (fields_skip before (omega arith) (p (cell + n) (omega arith) (omega arith)))
 
 -- the same, where the next field opens at the cell or none does
-pub record WritingTo (code : ℕ) (buf : List ℕ) (at : ℕ) (chars attrs buf₁ : List ℕ) (at₁ : ℕ) (first : Bool) (cell : ℕ) : Type 0 where
-  pub fields : WritingFields code buf at chars attrs buf₁ at₁ first cell
+pub record WritingTo (code : ℕ) (r : Reply) (chars attrs : List ℕ) (r₁ : Reply) (first : Bool) (cell : ℕ) : Type 0 where
+  pub fields : WritingFields code r chars attrs r₁ first cell
   pub opens : cell < length attrs → opens_at attrs cell ≡ true
 
-module _ {code : ℕ} {buf : List ℕ} {at : ℕ} {chars attrs buf₁ : List ℕ} {at₁ : ℕ} {first : Bool} {cell : ℕ} where
-  pub to_next : WritingFields code buf at chars attrs buf₁ at₁ first cell → cell ≤ length attrs
-      → {next : ℕ} → next ≡ first_from (opens_at attrs) attrs cell (length attrs) → WritingTo code buf at chars attrs buf₁ at₁ first next
+module _ {code : ℕ} {r : Reply} {chars attrs : List ℕ} {r₁ : Reply} {first : Bool} {cell : ℕ} where
+  pub to_next : WritingFields code r chars attrs r₁ first cell → cell ≤ length attrs
+      → {next : ℕ} → next ≡ first_from (opens_at attrs) attrs cell (length attrs) → WritingTo code r chars attrs r₁ first next
   to_next s h {next} e =
       let n = length attrs in
       let low : cell ≤ next = rw e (first_above (opens_at attrs) n cell (n - cell) cell (omega arith) h) in
@@ -191,11 +196,11 @@ to_further attrs {cell} {end} {next} h e f =
     let on : end ≤ next = rw f (first_above (opens_at attrs) n end (n - end) end (omega arith) (omega (arith, e, end_le attrs cell))) in
     omega (arith, on, e, end_gt attrs cell h)
 
-module _ {code : ℕ} {buf : List ℕ} {at : ℕ} {chars attrs buf₁ : List ℕ} {at₁ : ℕ} {first : Bool} {cell : ℕ} where
+module _ {code : ℕ} {r : Reply} {chars attrs : List ℕ} {r₁ : Reply} {first : Bool} {cell : ℕ} where
   -- the field is written, and the scan goes on from its end
-  pub to_more : WritingTo code buf at chars attrs buf₁ at₁ first cell → cell < length attrs → {end next : ℕ} {buf₂ : List ℕ} {at₂ : ℕ}
-      → end ≡ field_end attrs cell → Wrote buf₁ at₁ (separator_pieces code first ++ (text_piece cell end chars ∷ [])) buf₂ at₂
-      → next ≡ first_from (opens_at attrs) attrs end (length attrs) → WritingTo code buf at chars attrs buf₂ at₂ false next
+  pub to_more : WritingTo code r chars attrs r₁ first cell → cell < length attrs → {end next : ℕ} {r₂ : Reply}
+      → end ≡ field_end attrs cell → Puts r₁ (separator_pieces code first ++ (text_piece cell end chars ∷ [])) r₂
+      → next ≡ first_from (opens_at attrs) attrs end (length attrs) → WritingTo code r chars attrs r₂ false next
   to_more s h {end} e w f =
       let low = end_gt attrs cell h in
       let high = end_le attrs cell in

@@ -1,2 +1,3 @@
+pub mod Puts
 pub mod Reply
 pub mod Single

@@ -1,38 +1,57 @@
-// Bytes into the reply, as they are and as a payload.
-ghost use Rattle.std.specs.Prelude.{[], ◌∷◌};
-ghost use Rattle.reply.specs.Written.{Wrote};
-ghost use Rattle.reply.specs.Pieces.{doubled_pieces};
+// The reply, and bytes into it, as they are and as a payload.
+ghost use Rattle.std.specs.Prelude.{◌≡◌, [], ◌∷◌, ◌-◌, length};
+ghost use Rattle.reply.specs.Pieces.{text_piece, doubled_pieces};
+ghost use Rattle.reply.specs.Inner.Puts.{Puts};
 
 use edit::text::copy_text;
 use telnet::code::IAC;
 
-pub(crate) fn put_bytes(reply: &mut [u8], at: usize, bytes: &[u8]) -> usize
-    ensures { Wrote reply.old at (bytes.now ∷ []) reply.new result }
-{
-    copy_text(bytes, reply, 0, bytes.len(), at)
+// The lent buffer, and the place in it that is written next. A piece that does not fit is left out.
+#[derive(Drop)]
+pub(crate) struct Reply<'a> {
+    pub(crate) buffer: &'a mut [u8],
+    pub(crate) at: usize,
 }
 
-// A byte of a payload: IAC is written twice.
-#[tactic(auto, unfolding(crate::specs::Pieces::doubled_pieces))]
-pub(crate) fn put_doubled(reply: &mut [u8], at: usize, byte: u8) -> usize
-    ensures { Wrote reply.old at (doubled_pieces (byte ∷ [])) reply.new result }
-{
-    if byte == IAC {
-        return put_bytes(reply, at, &[IAC, IAC]);
+impl Reply<'_> {
+    // How many bytes there is room for.
+    pub(crate) fn room(&self) -> usize
+        ensures { result ≡ length self.now.buffer.now - self.now.at }
+    {
+        self.buffer.len().saturating_sub(self.at)
     }
-    put_bytes(reply, at, &[byte])
-}
 
-// The payload of a subnegotiation.
-#[tactic(auto, using(crate::proofs::WriteLaws::doubling))]
-pub(crate) fn put_payload(reply: &mut [u8], at: usize, payload: &[u8]) -> usize
-    ensures { Wrote reply.old at (doubled_pieces payload.now) reply.new result }
-{
-    let mut next = at;
-    let mut i = 0;
-    while i < payload.len() {
-        next = put_doubled(reply, next, payload[i]);
-        i += 1;
+    // The text of a range of cells.
+    pub(crate) fn put_range(&mut self, chars: &[u8], from: usize, end: usize)
+        ensures { Puts self.old (text_piece from end chars.now ∷ []) self.new }
+    {
+        self.at = copy_text(chars, self.buffer, from, end, self.at);
     }
-    next
+
+    pub(crate) fn put_bytes(&mut self, bytes: &[u8])
+        ensures { Puts self.old (bytes.now ∷ []) self.new }
+    {
+        self.put_range(bytes, 0, bytes.len());
+    }
+
+    // A byte of a payload: IAC is written twice.
+    #[tactic(auto, unfolding(crate::specs::Pieces::doubled_pieces))]
+    pub(crate) fn put_doubled(&mut self, byte: u8)
+        ensures { Puts self.old (doubled_pieces (byte ∷ [])) self.new }
+    {
+        if byte == IAC {
+            return self.put_bytes(&[IAC, IAC]);
+        }
+        self.put_bytes(&[byte]);
+    }
+
+    // The payload of a subnegotiation.
+    #[tactic(auto, using(crate::proofs::WriteLaws::doubling))]
+    pub(crate) fn put_payload(&mut self, payload: &[u8])
+        ensures { Puts self.old (doubled_pieces payload.now) self.new }
+    {
+        for byte in payload {
+            self.put_doubled(*byte);
+        }
+    }
 }

@@ -1,51 +1,37 @@
-// The text of every unprotected field into the reply.
-ghost use Rattle.std.specs.Prelude.{true, false, [], ◌∷◌, ◌++◌, ◌≡◌, eqb, length};
+// The fields of the screen into the reply, and the separator between each two.
+ghost use Rattle.std.specs.Prelude.{◌≡◌, true, false, [], ◌∷◌, ◌++◌, eqb, length};
 ghost use Rattle.screen.specs.Fields.{opens_at, first_from};
-ghost use Rattle.reply.specs.Written.{Wrote};
+ghost use Rattle.rules.specs.Number.{field_separator};
+ghost use Rattle.rules.specs.Edition.{code_for};
 ghost use Rattle.reply.specs.Pieces.{text_piece, separator_pieces, field_pieces};
+ghost use Rattle.reply.specs.Inner.Puts.{Puts};
 
-use crate::bytes::put_bytes;
-use crate::message::put_message;
-use crate::single::{are_singles, put_singles};
+use crate::Screen;
+use crate::bytes::Reply;
+use crate::single::are_singles;
 use command::number::DET;
-use edit::text::copy_text;
+use command::sent::{self, Sent};
+use rules::Edition;
 use screen::field::field_end;
 use screen::scan::{Target, first};
 use telnet::code::{IAC, SB, SE};
 
-// A separator before a field, not before the first, by its code, which is not IAC. Where all of it fits, it goes by one copy.
-#[tactic(auto, using(crate::proofs::WriteLaws::wrote_none))]
-fn put_separator(reply: &mut [u8], at: usize, code: u8, first: bool) -> usize
-    requires { eqb code 255 ≡ false }
-    ensures { Wrote reply.old at (separator_pieces code first) reply.new result }
-{
-    if first {
-        return at;
-    }
-    if at < reply.len() {
-        if 6 <= reply.len() - at {
-            return put_bytes(reply, at, &[IAC, SB, DET, code, IAC, SE]);
-        }
-    }
-    put_message(reply, at, DET, &[code])
+// The code between each two fields, which is not IAC.
+#[derive(Clone, Copy)]
+pub(crate) struct Separator {
+    pub(crate) code: u8,
+    ghost not_iac: { eqb code 255 ≡ false },
 }
 
-// The text of a field, behind a separator.
-fn put_field(
-    chars: &[u8],
-    reply: &mut [u8],
-    cell: usize,
-    end: usize,
-    at: usize,
-    code: u8,
-    first: bool,
-) -> usize
-    requires { eqb code 255 ≡ false }
-    ensures { Wrote reply.old at
-        (separator_pieces code first ++ (text_piece cell end chars.now ∷ [])) reply.new result }
-{
-    let start = put_separator(reply, at, code, first);
-    copy_text(chars, reply, cell, end, start)
+impl Separator {
+    #[tactic(auto, using(rules::proofs::Editions::not_iac))]
+    pub(crate) fn of(edition: Edition) -> Separator
+        ensures { result.code ≡ code_for edition field_separator }
+    {
+        Separator {
+            code: sent::code(edition, Sent::FieldSeparator),
+        }
+    }
 }
 
 // Where the first unprotected field from the cell on starts; none, the screen's end.
@@ -56,27 +42,57 @@ pub(crate) fn field_from(attrs: &[u8], cell: usize) -> usize
     first(attrs, Target::UnprotectedStart, cell, attrs.len())
 }
 
-// Every unprotected field, a separator between each two.
-#[tactic(auto, using(crate::proofs::WriteLaws::writing_length, crate::proofs::WriteLaws::to_further))]
-pub(crate) fn put_fields(chars: &[u8], attrs: &[u8], reply: &mut [u8], at: usize, code: u8) -> usize
-    requires { eqb code 255 ≡ false }
-    ensures { Wrote reply.old at
-        (field_pieces code chars.now attrs.now true 0 (length attrs.now)) reply.new result }
-{
-    let mut next = at;
-    let mut first = true;
-    let mut cell = field_from(attrs, 0);
-    while cell < attrs.len() {
-        let singles = are_singles(chars.len(), attrs, reply.len(), cell, next, first);
-        if singles {
-            next = put_singles(chars, reply, cell, next, code);
-            cell += 32;
-            continue;
+impl Reply<'_> {
+    // A separator before a field, not before the first. Where all of it fits, it goes by one copy.
+    #[tactic(auto, using(crate::proofs::WriteLaws::puts_none))]
+    fn put_separator(&mut self, separator: Separator, first: bool)
+        ensures { Puts self.old (separator_pieces separator.code first) self.new }
+    {
+        if first {
+            return;
         }
-        let end = field_end(attrs, cell);
-        next = put_field(chars, reply, cell, end, next, code, first);
-        first = false;
-        cell = field_from(attrs, end);
+        if 6 <= self.room() {
+            return self.put_bytes(&[IAC, SB, DET, separator.code, IAC, SE]);
+        }
+        self.put_message(DET, &[separator.code]);
     }
-    next
+
+    // The text of a field, behind a separator.
+    fn put_field(
+        &mut self,
+        chars: &[u8],
+        cell: usize,
+        end: usize,
+        separator: Separator,
+        first: bool,
+    )
+        ensures { Puts self.old
+            (separator_pieces separator.code first ++ (text_piece cell end chars.now ∷ [])) self.new }
+    {
+        self.put_separator(separator, first);
+        self.put_range(chars, cell, end);
+    }
+
+    // Every unprotected field, a separator between each two.
+    #[tactic(auto, using(crate::proofs::WriteLaws::to_further))]
+    pub(crate) fn put_fields(&mut self, screen: Screen<'_>, separator: Separator)
+        ensures { Puts self.old
+            (field_pieces separator.code screen.entry.chars.now screen.entry.attrs.now
+            true 0 (length screen.entry.attrs.now)) self.new }
+    {
+        let attrs = screen.attrs;
+        let mut first = true;
+        let mut cell = field_from(attrs, 0);
+        while cell < attrs.len() {
+            if are_singles(self, screen, cell, first) {
+                self.put_singles(screen.chars, cell, separator);
+                cell += 32;
+                continue;
+            }
+            let end = field_end(attrs, cell);
+            self.put_field(screen.chars, cell, end, separator, first);
+            first = false;
+            cell = field_from(attrs, end);
+        }
+    }
 }

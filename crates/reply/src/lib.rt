@@ -5,11 +5,8 @@
 ghost use Rattle.reply.specs.Written.{Wrote};
 ghost use Rattle.reply.specs.Pieces.{say_pieces};
 
-use crate::message::{put_message, put_negotiation};
-use crate::modified::put_modified;
-use crate::transmission::{put_form, put_preface, put_text};
+use crate::bytes::Reply;
 use command::number::DET;
-use command::sent;
 use decide::decision::Say;
 use rules::Edition;
 
@@ -20,6 +17,14 @@ mod modified;
 pub mod response;
 mod single;
 mod transmission;
+
+// The lent screen buffers.
+#[derive(Clone, Copy)]
+struct Screen<'a> {
+    chars: &'a [u8],
+    attrs: &'a [u8],
+    marks: &'a [u8],
+}
 
 // What is said, with the codes of an edition, written from the characters and the marks as they are.
 #[tactic(auto, using(crate::proofs::WriteLaws::wrote_none))]
@@ -35,23 +40,21 @@ pub fn write_reply(
     ensures { Wrote reply.old at
         (say_pieces edition chars.now attrs.now marks.now say) reply.new result }
 {
+    let screen = Screen {
+        chars,
+        attrs,
+        marks,
+    };
+    let mut said = Reply { buffer: reply, at };
     match say {
-        Say::Silent => at,
-        Say::Negotiation { verb, option } => put_negotiation(reply, at, verb, option),
-        Say::Two { code, a } => put_message(reply, at, DET, &[code, a]),
-        Say::Three { code, a, b } => put_message(reply, at, DET, &[code, a, b]),
-        Say::Preface(place) => {
-            let code = sent::data_transmit(edition);
-            put_preface(reply, at, code, place)
-        }
-        Say::Text { place, from, end } => {
-            let code = sent::data_transmit(edition);
-            put_text(chars, reply, at, code, place, from, end)
-        }
-        Say::Fields(place) => put_form(edition, chars, attrs, reply, at, place),
-        Say::Modified { width } => {
-            let code = sent::data_transmit(edition);
-            put_modified(chars, attrs, marks, reply, at, code, width)
-        }
+        Say::Silent => {}
+        Say::Negotiation { verb, option } => said.put_negotiation(verb, option),
+        Say::Two { code, a } => said.put_message(DET, &[code, a]),
+        Say::Three { code, a, b } => said.put_message(DET, &[code, a, b]),
+        Say::Preface(place) => said.put_preface(edition, place),
+        Say::Text { place, from, end } => said.put_text(edition, place, chars, from, end),
+        Say::Fields(place) => said.put_form(edition, place, screen),
+        Say::Modified { width } => said.put_modified(edition, width, screen),
     }
+    said.at
 }

@@ -1,57 +1,52 @@
 // 27 (request (v)): the unprotected fields with a marked cell into the reply.
 ghost use Rattle.std.specs.Prelude.{length};
-ghost use Rattle.reply.specs.Written.{Wrote};
+ghost use Rattle.rules.specs.Number.{data_transmit};
+ghost use Rattle.rules.specs.Edition.{code_for};
 ghost use Rattle.reply.specs.Pieces.{marked_pieces, modified_pieces};
+ghost use Rattle.reply.specs.Inner.Puts.{Puts};
 
+use crate::Screen;
+use crate::bytes::Reply;
 use crate::field::field_from;
-use crate::transmission::put_text;
 use edit::mark::some_marked;
+use rules::Edition;
 use screen::cell::place_of;
 use screen::field::field_end;
 
-// A field behind a preface of its own, if one of its cells is marked.
-#[tactic(auto, using(crate::proofs::WriteLaws::wrote_none))]
-fn put_marked(
-    chars: &[u8],
-    marks: &[u8],
-    reply: &mut [u8],
-    code: u8,
-    width: u8,
-    cell: usize,
-    end: usize,
-    at: usize,
-) -> usize
-    ensures { Wrote reply.old at
-        (marked_pieces code width chars.now marks.now cell end) reply.new result }
-{
-    let marked = some_marked(marks, cell, end);
-    if marked {
-        return put_text(chars, reply, at, code, place_of(width, cell), cell, end);
+impl Reply<'_> {
+    // A field behind a preface of its own, if one of its cells is marked.
+    #[tactic(auto, using(crate::proofs::WriteLaws::puts_none))]
+    fn put_marked(
+        &mut self,
+        edition: Edition,
+        width: u8,
+        screen: Screen<'_>,
+        cell: usize,
+        end: usize,
+    )
+        ensures { Puts self.old
+            (marked_pieces (code_for edition data_transmit) width screen.entry.chars.now screen.entry.marks.now cell end)
+            self.new }
+    {
+        if some_marked(screen.marks, cell, end) {
+            self.put_text(edition, place_of(width, cell), screen.chars, cell, end);
+        }
     }
-    at
-}
 
-// Every such field: no separators, and nothing at all where there is none.
-#[tactic(auto, using(crate::proofs::WriteLaws::writing_length, crate::proofs::WriteLaws::to_further))]
-pub(crate) fn put_modified(
-    chars: &[u8],
-    attrs: &[u8],
-    marks: &[u8],
-    reply: &mut [u8],
-    at: usize,
-    code: u8,
-    width: u8,
-) -> usize
-    ensures { Wrote reply.old at
-        (modified_pieces code width chars.now attrs.now marks.now 0 (length attrs.now))
-        reply.new result }
-{
-    let mut next = at;
-    let mut cell = field_from(attrs, 0);
-    while cell < attrs.len() {
-        let end = field_end(attrs, cell);
-        next = put_marked(chars, marks, reply, code, width, cell, end, next);
-        cell = field_from(attrs, end);
+    // Every such field: no separators, and nothing at all where there is none.
+    #[tactic(auto, using(crate::proofs::WriteLaws::to_further))]
+    pub(crate) fn put_modified(&mut self, edition: Edition, width: u8, screen: Screen<'_>)
+        ensures { Puts self.old
+            (modified_pieces (code_for edition data_transmit) width screen.entry.chars.now screen.entry.attrs.now screen.entry.marks.now
+            0 (length screen.entry.attrs.now))
+            self.new }
+    {
+        let attrs = screen.attrs;
+        let mut cell = field_from(attrs, 0);
+        while cell < attrs.len() {
+            let end = field_end(attrs, cell);
+            self.put_marked(edition, width, screen, cell, end);
+            cell = field_from(attrs, end);
+        }
     }
-    next
 }

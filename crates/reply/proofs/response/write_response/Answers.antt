@@ -1,5 +1,6 @@
-use Rattle.reply.proofs.WriteLaws.{wrote_then}
+use Rattle.std.proofs.Common.{rules}
+use Rattle.reply.proofs.WriteLaws.{puts_then, puts_end}
 use Rattle.reply.proofs.response.write_response.Goals as goal
 
 pub returns : goal.returns
-returns c = wrote_then c.put_bytes-start.ensures (wrote_then c.put_parameters-end.ensures c.put_bytes.ensures)
+returns c = puts_end (puts_then c.put_bytes.ensures (puts_then c.put_parameters.ensures c.put_bytes-2.ensures)) (search rules)

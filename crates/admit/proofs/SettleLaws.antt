@@ -36,18 +36,18 @@ module _ {why r : Refusal} (s : State) (reply : List ℕ) (done : Outcome) (e : 
 
 -- ---- open
 
-module _ (m n named : ℕ) (b : Screen) {why : Refusal} (e : why ≡ verdict (open_tests (fresh_frame m n (edition_of named)) named b)) where
+module _ (m n named : ℕ) (b : Screen) {why : Refusal} (e : verdict (open_tests (fresh_frame m n (edition_of named)) named b) ≡ why) where
   pub open_refused : {s : Session} {a : Answer} → is_taken why ≡ false → s ≡ fresh 0 0 September → a ≡ refused_answer s why
       → outcome a b [] ≡ opened m n named b
   unfolding opened
-  open_refused f p q = settled_refused _ _ _ e f (rw (← p) q)
+  open_refused f p q = settled_refused _ _ _ (sym e) f (rw (← p) q)
 
   module _ (t : why ≡ Taken) where
     -- the sizes and the lengths, as refusals 1 and 2 ask
     pub open_sizes : (m ≤ 132) × (n ≤ 64) × (length b.chars ≡ n * m) × (length b.attrs ≡ n * m) × (length b.marks ≡ n * m)
     unfolding open_tests
     open_sizes =
-        let passed = all_pass (open_tests (fresh_frame m n (edition_of named)) named b) refl (ap is_taken (sym e ∙ t)) in
+        let passed = all_pass (open_tests (fresh_frame m n (edition_of named)) named b) refl (ap is_taken (e ∙ t)) in
         let sizes = bounds m n passed.0 in
         let c = and_left (eqb (length b.chars) (n * m)) _ passed.1.1.0 in
         let both = and_right (eqb (length b.chars) (n * m)) _ passed.1.1.0 in
@@ -61,7 +61,7 @@ module _ (m n named : ℕ) (b : Screen) {why : Refusal} (e : why ≡ verdict (op
         → outcome (record { session = s; refusal = Taken; taken = 0; written = 0 }) (screen chars attrs marks) [] ≡ opened m n named b
     unfolding opened
     open_done p c q k =
-        settled_done _ _ _ e t
+        settled_done _ _ _ (sym e) t
         (rw (p, c, q, k, all_spaces b.attrs b.chars, all_zeros b.attrs, all_zeros b.marks, open_sizes.2, open_sizes.3, open_sizes.4))
 
 -- a call that is refused, and one that is done

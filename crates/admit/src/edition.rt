@@ -1,5 +1,5 @@
 // The edition of the codes that an open names, by the number of its RFC.
-ghost use Rattle.std.specs.Prelude.{◌≡◌};
+ghost use Rattle.std.specs.Prelude.{◌≡◌, if◌then◌else◌};
 ghost use Rattle.rules.specs.Edition.{is_edition, edition_of, name_of};
 
 use rules::Edition;
@@ -8,21 +8,15 @@ const JUNE: usize = 731;
 
 const SEPTEMBER: usize = 732;
 
-#[tactic(auto, unfolding(rules::specs::Edition::is_edition))]
-pub(crate) fn is_edition(named: usize) -> bool
-    ensures { result ≡ is_edition named }
+// The edition of this name. A function and no `TryFrom`: the type belongs to `rules`.
+#[tactic(auto, unfolding(rules::specs::Edition::is_edition, rules::specs::Edition::edition_of))]
+pub(crate) fn named(number: usize) -> Option<Edition>
+    ensures { result ≡ (if is_edition number then Some (edition_of number) else None) }
 {
-    named == JUNE || named == SEPTEMBER
-}
-
-#[tactic(auto, unfolding(rules::specs::Edition::edition_of))]
-pub(crate) fn edition_of(named: usize) -> Edition
-    ensures { result ≡ edition_of named }
-{
-    if named == JUNE {
-        Edition::June
-    } else {
-        Edition::September
+    match number {
+        JUNE => Some(Edition::June),
+        SEPTEMBER => Some(Edition::September),
+        _ => None,
     }
 }
 

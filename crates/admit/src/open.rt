@@ -5,7 +5,6 @@ ghost use Rattle.rules.specs.Operation.{outcome, opened};
 ghost use Rattle.command.specs.Frame.{lent};
 ghost use Rattle.admit.specs.Refused.{refused_answer};
 
-use crate::edition::edition_of;
 use crate::refuse::refuse_open;
 use command::facility::no_maps;
 use command::held::none;
@@ -32,13 +31,11 @@ fn fresh_pad() -> Pad
 fn fresh_session(width: u8, height: u8, edition: Edition) -> Session
     ensures { result ≡ fresh width height edition }
 {
-    let held = none();
-    let pad = fresh_pad();
     Session {
         frame: Frame {
-            width: width,
-            height: height,
-            edition: edition,
+            width,
+            height,
+            edition,
             cursor: Place {
                 x: Column(0),
                 y: Line(0),
@@ -50,10 +47,10 @@ fn fresh_session(width: u8, height: u8, edition: Edition) -> Session
         },
         reader: Reader {
             phase: Phase::Rest,
-            held: held,
+            held: none(),
             cr: false,
         },
-        pad: pad,
+        pad: fresh_pad(),
     }
 }
 
@@ -62,8 +59,8 @@ pub fn refused(session: Session, refusal: Refusal) -> Answer
     ensures { result ≡ refused_answer session refusal }
 {
     Answer {
-        session: session,
-        refusal: refusal,
+        session,
+        refusal,
         taken: 0,
         written: 0,
     }
@@ -83,16 +80,16 @@ pub fn open(
     ensures { outcome result (lent chars.new attrs.new marks.new) []
         ≡ opened width height named (lent chars.old attrs.old marks.old) }
 {
-    let why = refuse_open(width, height, named, chars, attrs, marks);
-    let Refusal::Taken = why else {
-        return refused(fresh_session(0, 0, Edition::September), why);
+    let edition = match refuse_open(width, height, named, chars, attrs, marks) {
+        Ok(edition) => edition,
+        Err(why) => return refused(fresh_session(0, 0, Edition::September), why),
     };
-    let session = fresh_session(width as u8, height as u8, edition_of(named));
+    let session = fresh_session(width as u8, height as u8, edition);
     erase(true, chars, attrs, 0, chars.len());
     fill(attrs, 0, attrs.len(), 0);
     fill(marks, 0, marks.len(), 0);
     Answer {
-        session: session,
+        session,
         refusal: Refusal::Taken,
         taken: 0,
         written: 0,

@@ -1,5 +1,6 @@
 // What every operation asks of its sizes, session and buffers, in document 01's order.
-ghost use Rattle.std.specs.Prelude.{◌≡◌, not, ◌&&◌, ◌||◌, List, ℕ, min, max, leb, eqb, length};
+ghost use Rattle.std.specs.Prelude.{◌≡◌, false, not, ◌&&◌, ◌||◌, List, ℕ, leb, eqb, length, MatchResult};
+ghost use Rattle.rules.specs.declared.Refusal.TheVariants.{Taken};
 ghost use Rattle.rules.specs.Session.{
   sizes_ok,
   cells,
@@ -14,38 +15,20 @@ ghost use Rattle.rules.specs.Session.{
   state,
 };
 ghost use Rattle.rules.specs.Edition.{edition_of};
-ghost use Rattle.rules.specs.Refusal.{verdict, open_tests, size_tests, state_tests};
+ghost use Rattle.rules.specs.Refusal.{is_taken, verdict, open_tests, size_tests, state_tests};
 ghost use Rattle.rules.specs.Operation.{host_refusal};
 ghost use Rattle.command.specs.Frame.{lent};
 
-use crate::edition::is_edition;
+use crate::edition::named;
 use pad::parameter::all_admissible;
-use rules::{Frame, Pad, Refusal, Session};
+use rules::{Edition, Frame, Pad, Refusal, Session};
 use screen::cell::on_screen;
 
 // M is 1 to 132, N is 1 to 64. The numbers are wide, so that nothing a caller passes is cut off.
 fn sizes_ok(m: usize, n: usize) -> bool
     ensures { result ≡ sizes_ok m n }
 {
-    if m < 1 {
-        return false;
-    }
-    if 132 < m {
-        return false;
-    }
-    1 <= n && n <= 64
-}
-
-fn lesser(a: u8, b: u8) -> u8
-    ensures { result ≡ min a b }
-{
-    if b < a { b } else { a }
-}
-
-fn greater(a: u8, b: u8) -> u8
-    ensures { result ≡ max a b }
-{
-    if a < b { b } else { a }
+    (1..=132).contains(&m) && (1..=64).contains(&n)
 }
 
 // By the least and the greatest character. The loop has one way out, so that the compiler takes sixteen characters at a time.
@@ -55,11 +38,9 @@ fn all_printable(chars: &[u8]) -> bool
 {
     let mut low = 126;
     let mut high = 32;
-    let mut i = 0;
-    while i < chars.len() {
-        low = lesser(low, chars[i]);
-        high = greater(high, chars[i]);
-        i += 1;
+    for c in chars {
+        low = low.min(*c);
+        high = high.max(*c);
     }
     32 <= low && high <= 126
 }
@@ -70,10 +51,8 @@ fn all_marks(marks: &[u8]) -> bool
     ensures { result ≡ all_marks marks.now }
 {
     let mut high = 0;
-    let mut i = 0;
-    while i < marks.len() {
-        high = greater(high, marks[i]);
-        i += 1;
+    for m in marks {
+        high = high.max(*m);
     }
     high <= 1
 }
@@ -83,52 +62,27 @@ fn all_marks(marks: &[u8]) -> bool
 fn x3_fits(frame: Frame) -> bool
     ensures { result ≡ (not frame.x3 || leb x3_cells (cells frame)) }
 {
-    if !frame.x3 {
-        return true;
-    }
-    37 <= frame.height as usize * frame.width as usize
+    !frame.x3 || 37 <= frame.height as usize * frame.width as usize
 }
 
 // Every value is admissible, those of the half-read message's copy too, and the edit line is in its range.
-#[tactic(auto, using(screen::proofs::TestLaws::failing, screen::proofs::TestLaws::passing), unfolding(rules::specs::Session::pad_ok))]
+#[tactic(auto, unfolding(rules::specs::Session::pad_ok))]
 fn pad_ok(pad: Pad) -> bool
     ensures { result ≡ pad_ok pad }
 {
-    let values = pad.values;
-    let admissible = all_admissible(values);
-    if !admissible {
-        return false;
-    }
-    let message = pad.message;
-    let copy = message.copy;
-    let copied = all_admissible(copy);
-    if !copied {
-        return false;
-    }
-    let line = pad.line;
-    line.is_sound()
+    all_admissible(pad.values) && all_admissible(pad.message.copy) && pad.line.is_sound()
 }
 
 // The cursor is on the screen, at most six bytes are held, option 30 fits, and the PAD is in its ranges.
-#[tactic(auto, using(screen::proofs::TestLaws::failing, screen::proofs::TestLaws::passing), unfolding(rules::specs::Session::session_ok))]
+#[tactic(auto, unfolding(rules::specs::Session::session_ok))]
 fn session_ok(session: Session) -> bool
     ensures { result ≡ session_ok session }
 {
     let frame = session.frame;
-    let cursor = frame.cursor;
-    let inside = on_screen(frame.width, frame.height, cursor);
-    if !inside {
-        return false;
-    }
-    if 6 < session.reader.held.count {
-        return false;
-    }
-    let wide = x3_fits(frame);
-    if !wide {
-        return false;
-    }
-    let pad = session.pad;
-    pad_ok(pad)
+    on_screen(frame.width, frame.height, frame.cursor)
+        && session.reader.held.count <= 6
+        && x3_fits(frame)
+        && pad_ok(session.pad)
 }
 
 // The worst single reply: 9C.
@@ -144,41 +98,34 @@ fn lengths_ok(cells: usize, chars: &[u8], attrs: &[u8], marks: &[u8]) -> bool
     ensures { result ≡ (eqb (length chars.now) cells
         && (eqb (length attrs.now) cells && eqb (length marks.now) cells)) }
 {
-    if chars.len() != cells {
-        return false;
-    }
-    if attrs.len() != cells {
-        return false;
-    }
-    marks.len() == cells
+    chars.len() == cells && attrs.len() == cells && marks.len() == cells
 }
 
-// Refusals 1, 12 and 2, all that open has.
+// Refusals 1, 12 and 2, all that open has, or the edition that is named.
 #[tactic(auto, unfolding(rules::specs::Refusal::verdict, rules::specs::Refusal::open_tests))]
 pub(crate) fn refuse_open(
     m: usize,
     n: usize,
-    named: usize,
+    name: usize,
     chars: &[u8],
     attrs: &[u8],
     marks: &[u8],
-) -> Refusal
-    ensures { result ≡ verdict (open_tests (fresh_frame m n (edition_of named)) named
-        (lent chars.now attrs.now marks.now)) }
+) -> Result<Edition, Refusal>
+    ensures { let told = verdict (open_tests (fresh_frame m n (edition_of name)) name (lent chars.now attrs.now marks.now)) in
+        MatchResult result
+        (λ edition. (told ≡ Taken) × (edition ≡ edition_of name))
+        (λ why. (told ≡ why) × (is_taken why ≡ false)) }
 {
-    let sized = sizes_ok(m, n);
-    if !sized {
-        return Refusal::Size;
+    if !sizes_ok(m, n) {
+        return Err(Refusal::Size);
     }
-    let known = is_edition(named);
-    if !known {
-        return Refusal::UnknownEdition;
+    let Some(edition) = named(name) else {
+        return Err(Refusal::UnknownEdition);
+    };
+    if !lengths_ok(n * m, chars, attrs, marks) {
+        return Err(Refusal::BufferLength);
     }
-    let long = lengths_ok(n * m, chars, attrs, marks);
-    if !long {
-        return Refusal::BufferLength;
-    }
-    Refusal::Taken
+    Ok(edition)
 }
 
 // Refusals 1 and 2, of a session.
@@ -188,12 +135,10 @@ fn refuse_sizes(frame: Frame, chars: &[u8], attrs: &[u8], marks: &[u8]) -> Refus
 {
     let m = frame.width as usize;
     let n = frame.height as usize;
-    let sized = sizes_ok(m, n);
-    if !sized {
+    if !sizes_ok(m, n) {
         return Refusal::Size;
     }
-    let long = lengths_ok(n * m, chars, attrs, marks);
-    if !long {
+    if !lengths_ok(n * m, chars, attrs, marks) {
         return Refusal::BufferLength;
     }
     Refusal::Taken
@@ -205,16 +150,13 @@ fn refuse_state(session: Session, chars: &[u8], marks: &[u8], reply: &[u8]) -> R
     ensures { (attrs : List ℕ)
         → result ≡ verdict (state_tests session (screen chars.now attrs marks.now) reply.now) }
 {
-    let printable = all_printable(chars);
-    if !printable {
+    if !all_printable(chars) {
         return Refusal::BadCharacter;
     }
-    let sound = session_ok(session);
-    if !sound {
+    if !session_ok(session) {
         return Refusal::BadSession;
     }
-    let small = all_marks(marks);
-    if !small {
+    if !all_marks(marks) {
         return Refusal::BadMark;
     }
     if reply.len() < reply_room(session.frame) {

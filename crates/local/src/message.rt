@@ -1,5 +1,6 @@
 // A message of option 30, one byte after the other: the reader reads it, the PAD is told, and SEND is answered.
 ghost use Rattle.std.specs.Prelude.{◌≡◌, ◌&&◌};
+ghost use Rattle.telnet.specs.Reader.{read_of};
 ghost use Rattle.pad.specs.Message.{ended};
 ghost use Rattle.rules.specs.Pad.{counts};
 ghost use Rattle.rules.specs.Operation.{reader_after};
@@ -11,57 +12,49 @@ use command::held::{cr_after, held_after};
 use pad::message::end;
 use reply::response::write_response;
 use rules::{Frame, Pad, Reader};
-use telnet::{Event, read};
+use telnet::{Event, Step, read};
 
 // Is a message that ends answered: a SEND, while option 30 is on?
 fn is_answered(frame: Frame, pad: Pad, option: u8) -> bool
     ensures { result ≡ (counts frame option && (ended pad.values pad.message).asked) }
 {
-    let counted = is_counted(frame, option);
-    if counted {
-        let values = pad.values;
-        let message = pad.message;
-        let done = end(values, message);
-        return done.asked;
-    }
-    false
+    is_counted(frame, option) && end(pad.values, pad.message).asked
 }
 
 // RESPONSE-IS where it is asked for: the place after it.
-#[tactic(auto, using(reply::proofs::WriteLaws::wrote_none), unfolding(crate::specs::Message::answer_pieces))]
-fn answer_end(frame: Frame, pad: Pad, option: u8, reply: &mut [u8], at: usize) -> usize
-    ensures { Wrote reply.old at (answer_pieces frame pad (Event.End option)) reply.new result }
-{
-    let asked = is_answered(frame, pad, option);
-    if asked {
-        let values = pad.values;
-        return write_response(values, reply, at);
-    }
-    at
-}
-
-#[tactic(auto, using(crate::proofs::MessageLaws::unanswered))]
+#[tactic(auto, using(reply::proofs::WriteLaws::wrote_none, crate::proofs::MessageLaws::unanswered), unfolding(crate::specs::Message::answer_pieces))]
 fn answer(frame: Frame, pad: Pad, event: Event, reply: &mut [u8], at: usize) -> usize
     ensures { Wrote reply.old at (answer_pieces frame pad event) reply.new result }
 {
-    match event {
-        Event::End(option) => answer_end(frame, pad, option, reply, at),
-        _ => at,
+    let Event::End(option) = event else {
+        return at;
+    };
+    if is_answered(frame, pad, option) {
+        write_response(pad.values, reply, at)
+    } else {
+        at
     }
 }
 
-fn read_on(reader: Reader, next: u8) -> Reader
-    ensures { result ≡ reader_after reader next }
+// What a byte tells, and the reader after it.
+#[derive(Clone, Copy)]
+pub struct ByteRead {
+    pub event: Event,
+    pub reader: Reader,
+}
+
+pub fn read_byte(reader: Reader, byte: u8) -> ByteRead
+    ensures event { result.event ≡ (read_of reader.phase byte).event }
+    ensures reader { result.reader ≡ reader_after reader byte }
 {
-    let phase = reader.phase;
-    let step = read(phase, next);
-    let event = step.event;
-    let after = step.phase;
-    let held = reader.held;
-    Reader {
-        phase: after,
-        held: held_after(held, event),
-        cr: cr_after(reader.cr, event),
+    let Step { phase, event } = read(reader.phase, byte);
+    ByteRead {
+        event,
+        reader: Reader {
+            phase,
+            held: held_after(reader.held, event),
+            cr: cr_after(reader.cr, event),
+        },
     }
 }
 
@@ -84,15 +77,13 @@ pub fn take_byte(
 ) -> PadTurn
     ensures { Reads frame reader pad next reply.old at result reply.new }
 {
-    let phase = reader.phase;
-    let step = read(phase, next);
-    let event = step.event;
-    let written = answer(frame, pad, event, reply, at);
-    let after = pad_told(frame, pad, event);
-    let reads = read_on(reader, next);
+    let ByteRead {
+        event,
+        reader: after,
+    } = read_byte(reader, next);
     PadTurn {
-        reader: reads,
-        pad: after,
-        written: written,
+        reader: after,
+        pad: pad_told(frame, pad, event),
+        written: answer(frame, pad, event, reply, at),
     }
 }

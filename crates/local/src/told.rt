@@ -2,7 +2,7 @@
 ghost use Rattle.std.specs.Prelude.{◌≡◌, [], if◌then◌else◌};
 ghost use Rattle.pad.specs.Line.{line_of};
 ghost use Rattle.pad.specs.Message.{idle_message, begun, after_byte, ended};
-ghost use Rattle.rules.specs.Pad.{is_x3, counts, empties, pad_after, with_message, with_line};
+ghost use Rattle.rules.specs.Pad.{is_x3, counts, empties, pad_after, with_line};
 ghost use Rattle.local.specs.Told.{ends_other};
 
 use command::number::X3;
@@ -12,38 +12,11 @@ use pad::parameter::Values;
 use rules::{Frame, Pad};
 use telnet::{Event, Verb};
 
-pub(crate) fn with_message(pad: Pad, message: Message) -> Pad
-    ensures { result ≡ with_message pad message }
-{
-    let values = pad.values;
-    let line = pad.line;
-    Pad {
-        values: values,
-        line: line,
-        message: message,
-    }
-}
-
-pub(crate) fn with_line(pad: Pad, line: EditLine) -> Pad
-    ensures { result ≡ with_line pad line }
-{
-    let values = pad.values;
-    let message = pad.message;
-    Pad {
-        values: values,
-        line: line,
-        message: message,
-    }
-}
-
 // At the option byte: a message of option 30 begins from the values in force.
 fn begun_message(values: Values, option: u8) -> Message
     ensures { result ≡ (if is_x3 option then begun values else idle_message) }
 {
-    if option == X3 {
-        return begin(values);
-    }
-    idle()
+    if option == X3 { begin(values) } else { idle() }
 }
 
 // One byte more of it.
@@ -51,68 +24,48 @@ fn read_message(message: Message, option: u8, next: u8) -> Message
     ensures { result ≡ (if is_x3 option then after_byte message next else message) }
 {
     if option == X3 {
-        return byte(message, next);
+        byte(message, next)
+    } else {
+        message
     }
-    message
 }
 
 // Does a subnegotiation that ended count: option 30's, while it is on?
 pub(crate) fn is_counted(frame: Frame, option: u8) -> bool
     ensures { result ≡ counts frame option }
 {
-    if option == X3 {
-        return frame.x3;
-    }
-    false
+    option == X3 && frame.x3
 }
 
 // At its end the pairs come into force, or nothing does.
 fn ended_values(frame: Frame, pad: Pad, option: u8) -> Values
     ensures { result ≡ (if counts frame option then (ended pad.values pad.message).values else pad.values) }
 {
-    let values = pad.values;
-    let counted = is_counted(frame, option);
-    if counted {
-        let message = pad.message;
-        let done = end(values, message);
-        return done.values;
+    if is_counted(frame, option) {
+        end(pad.values, pad.message).values
+    } else {
+        pad.values
     }
-    values
 }
 
 #[tactic(auto, unfolding(rules::specs::Pad::empties))]
 fn is_emptied(frame: Frame, verb: Verb, option: u8) -> bool
     ensures { result ≡ empties frame verb option }
 {
-    match verb {
-        Verb::Dont => is_counted(frame, option),
-        Verb::Do => false,
-        Verb::Will => false,
-        Verb::Wont => false,
-    }
+    matches!(verb, Verb::Dont) && is_counted(frame, option)
 }
 
 // DONT 30 while it is on empties the edit line, unsent.
 fn negotiated_pad(frame: Frame, pad: Pad, verb: Verb, option: u8) -> Pad
     ensures { result ≡ with_line pad (if empties frame verb option then line_of [] else pad.line) }
 {
-    let emptied = is_emptied(frame, verb, option);
-    if emptied {
-        return with_line(pad, EditLine::new());
-    }
-    pad
-}
-
-#[tactic(auto, unfolding(rules::specs::Pad::pad_after))]
-fn ended_pad(frame: Frame, pad: Pad, option: u8) -> Pad
-    ensures { result ≡ pad_after frame pad (Event.End option) }
-{
-    let values = ended_values(frame, pad, option);
-    let line = pad.line;
-    Pad {
-        values: values,
-        line: line,
-        message: idle(),
+    if is_emptied(frame, verb, option) {
+        Pad {
+            line: EditLine::new(),
+            ..pad
+        }
+    } else {
+        pad
     }
 }
 
@@ -133,19 +86,24 @@ pub fn pad_told(frame: Frame, pad: Pad, event: Event) -> Pad
     ensures { result ≡ pad_after frame pad event }
 {
     match event {
-        Event::Nothing => pad,
-        Event::Data(_) => pad,
+        Event::Nothing | Event::Data(_) => pad,
         Event::Negotiation { verb, option } => negotiated_pad(frame, pad, verb, option),
-        Event::Begin(option) => {
-            let values = pad.values;
-            with_message(pad, begun_message(values, option))
-        }
-        Event::Sub { option, byte } => {
-            let message = pad.message;
-            with_message(pad, read_message(message, option, byte))
-        }
-        Event::End(option) => ended_pad(frame, pad, option),
-        Event::EndBare => with_message(pad, idle()),
-        Event::Lost => with_message(pad, idle()),
+        Event::Begin(option) => Pad {
+            message: begun_message(pad.values, option),
+            ..pad
+        },
+        Event::Sub { option, byte } => Pad {
+            message: read_message(pad.message, option, byte),
+            ..pad
+        },
+        Event::End(option) => Pad {
+            values: ended_values(frame, pad, option),
+            message: idle(),
+            ..pad
+        },
+        Event::EndBare | Event::Lost => Pad {
+            message: idle(),
+            ..pad
+        },
     }
 }

@@ -9,7 +9,6 @@ ghost use Rattle.text.specs.Text.{Changes};
 ghost use Rattle.pad.specs.Line.{text_of};
 ghost use Rattle.typing.specs.Echo.{bytes_of};
 
-use crate::told::with_line;
 use command::frame::moved;
 use pad::line::EditLine;
 use rules::{Frame, Pad, Refusal};
@@ -19,17 +18,10 @@ use typing::key::{line_after, overfills};
 use typing::out::write_out;
 
 // Does the line take the key: option 30 on, DET off, and 0 to 127?
-#[tactic(auto, using(words::proofs::Laws::and_off))]
 pub fn takes_key(frame: Frame, code: u8) -> bool
     ensures { result ≡ takes_key frame code }
 {
-    if frame.det {
-        return false;
-    }
-    if frame.x3 {
-        return code < 128;
-    }
-    false
+    frame.x3 && !frame.det && code < 128
 }
 
 // Refusal 10.
@@ -37,10 +29,7 @@ pub fn takes_key(frame: Frame, code: u8) -> bool
 pub fn refuse_line(pad: Pad, code: u8) -> Refusal
     ensures { result ≡ verdict (line_tests pad code) }
 {
-    let values = pad.values;
-    let line = pad.line;
-    let full = overfills(values, line, code);
-    if full {
+    if overfills(pad.values, pad.line, code) {
         return Refusal::LineFull;
     }
     Refusal::Taken
@@ -52,14 +41,10 @@ fn write_echo(frame: Frame, echo: Echo, line: EditLine, chars: &mut [u8], attrs:
     ensures { Changes (host_text (seen frame attrs.now) (bytes_of echo (text_of line)))
         chars.old attrs.now result chars.new }
 {
-    let count = echo_length(echo, line);
     let mut cursor = frame.cursor;
-    let mut i = 0;
-    while i < count {
+    for i in 0..echo_length(echo, line) {
         let next = echo_at(echo, line, i);
-        let now = moved(frame, cursor);
-        cursor = take_data(now, next, chars, attrs);
-        i += 1;
+        cursor = take_data(moved(frame, cursor), next, chars, attrs);
     }
     moved(frame, cursor)
 }
@@ -70,19 +55,15 @@ pub fn echo_key(frame: Frame, pad: Pad, code: u8, chars: &mut [u8], attrs: &[u8]
     ensures { Changes (host_text (seen frame attrs.now) (echoed_at pad code))
         chars.old attrs.now result chars.new }
 {
-    let values = pad.values;
-    let line = pad.line;
-    let echo = echo_of(values, line, code);
-    write_echo(frame, echo, line, chars, attrs)
+    let echo = echo_of(pad.values, pad.line, code);
+    write_echo(frame, echo, pad.line, chars, attrs)
 }
 
 // What goes out at a key, written from the reply's start: its length.
 pub fn send_line(pad: Pad, code: u8, reply: &mut [u8]) -> usize
     ensures { Emitted reply.old 0 (sent_at pad code) reply.new result }
 {
-    let values = pad.values;
-    let line = pad.line;
-    write_out(values, line, code, reply)
+    write_out(pad.values, pad.line, code, reply)
 }
 
 // The PAD after a key.
@@ -90,7 +71,8 @@ pub fn send_line(pad: Pad, code: u8, reply: &mut [u8]) -> usize
 pub fn type_key(pad: Pad, code: u8) -> Pad
     ensures { result ≡ pad_typed pad code }
 {
-    let values = pad.values;
-    let line = pad.line;
-    with_line(pad, line_after(values, line, code))
+    Pad {
+        line: line_after(pad.values, pad.line, code),
+        ..pad
+    }
 }

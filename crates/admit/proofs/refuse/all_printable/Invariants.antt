@@ -1,13 +1,9 @@
 use mathlib.Core.Path.{◌≡◌}
 use mathlib.Core.Bool.{◌&&◌}
-use Prim.Native.Nat.{◌-◌, ◌≤◌}
 use lib.Dec.{leb}
-use lib.ListN.{length, drop}
+use lib.ListN.{drop}
 use Rattle.rules.specs.Session.{all_printable}
 use Rattle.admit.proofs.refuse.all_printable.Given as goal
 
-abbrev pub invariant-loop-i : goal.invariant-loop-i
-invariant-loop-i l = (l.i ≤ length l.chars) × (all_printable l.chars ≡ (all_printable (drop l.i l.chars) && (leb 32 l.low && leb l.high 126)))
-
-abbrev pub decreases-loop-i : goal.decreases-loop-i
-decreases-loop-i l = length l.chars - l.i
+abbrev pub invariant-loop-c : goal.invariant-loop-c
+invariant-loop-c l = all_printable l.chars ≡ (all_printable (drop l.c-index l.chars) && (leb 32 l.low && leb l.high 126))

@@ -9,7 +9,7 @@ loop-i-init c = (texted_none _ false false (bytes_of c.args.echo (text_of c.args
 
 pub loop-i-preserved : goal.loop-i-preserved
 loop-i-preserved c = (
-  texted_more c.loop-i.invariant.0 (omega (arith, c.loop-i-test.true, c.echo_length-count.ensures)) refl
-      (rw (c.echo_at-next.ensures, c.moved-now.ensures) at c.take_data-cursor.ensures),
+  texted_more c.loop-i.invariant.0 (omega (arith, c.loop-i-test.true, c.echo_length-i-end.ensures)) refl
+      (rw (c.echo_at-next.ensures, c.moved.ensures) at c.take_data-cursor.ensures),
   search rules,
 )

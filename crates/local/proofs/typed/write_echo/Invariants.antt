@@ -1,6 +1,5 @@
 use mathlib.Core.Path.{◌≡◌}
 use mathlib.Core.Bool.{false}
-use Prim.Native.Nat.{◌-◌}
 use lib.ListN.{length}
 use Rattle.pad.specs.Line.{text_of}
 use Rattle.typing.specs.Echo.{bytes_of}
@@ -10,6 +9,3 @@ use Rattle.local.proofs.typed.write_echo.Given as goal
 
 abbrev pub invariant-loop-i : goal.invariant-loop-i
 invariant-loop-i l = Texted l.attrs false false (bytes_of l.echo (text_of l.line)) l.frame l.fn.chars l.i (placed l.frame l.cursor) l.chars × (length l.chars ≡ length l.fn.chars)
-
-abbrev pub decreases-loop-i : goal.decreases-loop-i
-decreases-loop-i l = l.count - l.i

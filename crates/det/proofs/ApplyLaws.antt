@@ -2,8 +2,7 @@
 use mathlib.Core.Path.{◌≡◌, refl, sym}
 use mathlib.Core.Logic.{⊎_elim}
 use mathlib.Core.List.{List, [], ◌∷◌, ◌++◌}
-use Prim.Native.Nat.{ℕ, zero, suc, ◌-◌, ◌≤◌, ◌<◌}
-use native.Mathlib.Nat.{not-suc-le-zero}
+use Prim.Native.Nat.{ℕ, zero, suc, ◌≤◌}
 use native.Mathlib.Omega.{arith}
 use types.Run.{OneOf, miss}
 use denote.Enum.Declared.{tag_of}
@@ -67,33 +66,32 @@ unfolding host_character
 host_attrs v c = either (λ (e : Effect). e.view.attrs ≡ v.attrs) (cursor_guarded v) (λ t. refl) (λ t. refl)
 
 -- so many host characters are one, and then one less
-one_less : (k : ℕ) (v : View) (c : ℕ) → 0 < k → let rest = host_characters (k - 1) (host_character v c).view c in
-    host_characters k v c ≡ changing rest.view ((host_character v c).changes ++ rest.changes)
+one_less : (k : ℕ) (v : View) (c : ℕ) → let rest = host_characters k (host_character v c).view c in
+    host_characters (suc k) v c ≡ changing rest.view ((host_character v c).changes ++ rest.changes)
 unfolding host_characters
-one_less zero v c h = absurd (not-suc-le-zero h)
-one_less (suc k) v c h = let e : suc k - 1 ≡ k = omega arith in rw e
+one_less k v c = refl
 
 -- n characters from a frame and these characters on: what k more do from here is what they all do
 pub record Repeating (attrs : List ℕ) (c n : ℕ) (f₀ : Frame) (chars₀ : List ℕ) (k : ℕ) (f : Frame) (chars : List ℕ) : Type 0 where
   pub all : {f' : Frame} {chars' : List ℕ} → Changes (host_characters k (view f attrs) c) chars attrs f' chars'
       → Changes (host_characters n (view f₀ attrs) c) chars₀ attrs f' chars'
 
-pub repeating_start : {attrs : List ℕ} {c n : ℕ} {f : Frame} {chars : List ℕ} → Repeating attrs c n f chars n f chars
-repeating_start = record { all = λ d. d }
+pub repeating_start : {attrs : List ℕ} {c n k : ℕ} {f : Frame} {chars : List ℕ} → k ≡ n → Repeating attrs c n f chars k f chars
+repeating_start e = rw e (record { all = λ d. d })
 
 module _ {attrs : List ℕ} {c n : ℕ} {f₀ : Frame} {chars₀ : List ℕ} {k : ℕ} {f : Frame} {chars : List ℕ}
     (r : Repeating attrs c n f₀ chars₀ k f chars) where
   -- one more is done
-  pub repeating_more : {f' : Frame} {chars' : List ℕ} → 0 < k → Changes (host_character (view f attrs) c) chars attrs f' chars'
-      → Repeating attrs c n f₀ chars₀ (k - 1) f' chars'
-  repeating_more {f'} h one = record {
+  pub repeating_more : {j : ℕ} {f' : Frame} {chars' : List ℕ} → k ≡ suc j → Changes (host_character (view f attrs) c) chars attrs f' chars'
+      → Repeating attrs c n f₀ chars₀ j f' chars'
+  repeating_more {j} {f'} e one = record {
     all = λ d.
         let v = view f attrs in
         let after : view f' attrs ≡ (host_character v c).view = λ i. record { frame = one.frame i; attrs = sym (host_attrs v c) i } in
-        let less = one_less k v c h in
+        let less = one_less j v c in
         r.all (record {
-          frame = rw (less, ← after) d.frame;
-          characters = rw (less, changed_append, ← after, ← one.characters) d.characters;
+          frame = rw (e, less, ← after) d.frame;
+          characters = rw (e, less, changed_append, ← after, ← one.characters) d.characters;
         });
   }
 

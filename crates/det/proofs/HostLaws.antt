@@ -31,12 +31,13 @@ use Rattle.rules.proofs.Sound.{Sound, sound_running, passes}
 use Rattle.rules.proofs.Room.{room_byte}
 use Rattle.rules.proofs.Running.{running_append, silent_taken, taken_step}
 use Rattle.det.specs.declared.apply.Applied.{Applied}
+use Rattle.det.specs.declared.start.Start.{Start}
 use Rattle.det.specs.declared.take.Told.{Told}
 use Rattle.det.specs.declared.take.Turn.{Turn}
 use Rattle.words.specs.Stored.{Emitted}
-use Rattle.det.specs.Inner.Data.{det_effect}
 use Rattle.det.specs.Inner.Apply.{Applies, Answerable}
-use Rattle.det.specs.Inner.Take.{Accepts, fresh_with, AcceptsTurn, in_message, Taking, QuietRun, QuietTurns, Tells, Turns, host_taken}
+use Rattle.det.specs.Inner.Message.{in_message}
+use Rattle.det.specs.Inner.Take.{Accepts, fresh_with, AcceptsTurn, Taking, QuietRun, QuietTurns, TellsNext, effect_at, Turns, host_taken}
 use Rattle.words.proofs.StoredLaws.{emitted_none, emitted_length, emitted_then, emitted_whole}
 use Rattle.det.proofs.TakeLaws.{accepted, fits_worst, det_effect_lem, byte_answerable, byte_state, byte_replies}
 
@@ -134,7 +135,7 @@ fresh_sound false = record { values = refl; copy = refl; line = refl }
 
 -- what is asked with any PAD
 pub accepts_turn : (f : Frame) (r : Reader) (p : Pad) (lf : Bool) (b : Screen) (reply : List ℕ) (at : ℕ) → Accepts (state (session f r p) b) reply at
-    → AcceptsTurn f r lf b reply at
+    → Accepts (state (session f r (fresh_with lf)) b) reply at
 accepts_turn f r p lf b reply at a =
     let k = accepted (state (session f r p) b) reply at a in
     let s = k.sound in
@@ -142,48 +143,48 @@ accepts_turn f r p lf b reply at a =
 
 -- ---- what is told next
 
-module _ (f : Frame) (r : Reader) (lf : Bool) (b : Screen) (reply : List ℕ) (at : ℕ) {input : List ℕ} {from : ℕ} {t : Told} (k : Tells r input from t) where
+module _ (h : Start) (b : Screen) (reply : List ℕ) {t : Told} (k : TellsNext h t) where
   -- what is done on it
   abbrev tells_effect : Effect
-  tells_effect = det_effect (view f b.attrs) lf t.held r.cr t.event
+  tells_effect = effect_at h t b.attrs
 
-  module _ (p : Pad) (prints : prints_lf p.values ≡ lf) (a : Accepts (state (session f r p) b) reply at) where
+  module _ (p : Pad) (prints : prints_lf p.values ≡ h.lf) (a : Accepts (state (session h.frame h.reader p) b) reply h.at) where
     -- the state before the byte that tells it
     abbrev mid : State
-    mid = state (session f (record { phase = k.phase; held = t.held; cr = r.cr }) (k.before p)) b
+    mid = state (session h.frame (record { phase = k.phase; held = t.held; cr = h.reader.cr }) (k.before p)) b
 
-    mid_accepts : Accepts mid reply at
-    mid_accepts = accepts_run (state (session f r p) b) reply at a (k.quiet f p b)
+    mid_accepts : Accepts mid reply h.at
+    mid_accepts = accepts_run (state (session h.frame h.reader p) b) reply h.at a (k.quiet h.frame p b)
 
-    same_effect : happening (view f b.attrs) mid.session.reader (k.before p) t.event ≡ tells_effect
+    same_effect : happening (view h.frame b.attrs) mid.session.reader (k.before p) t.event ≡ tells_effect
     same_effect = det_effect_lem _ _ _ _ k.unasked ∙ rw (k.values p, prints)
 
     -- the reply to it can be written
-    answerable : Answerable tells_effect f b reply at
-    answerable = rw (← same_effect) (byte_answerable mid reply at mid_accepts (get_or input k.last 0) k.step)
+    answerable : Answerable tells_effect h.frame b reply h.at
+    answerable = rw (← same_effect) (byte_answerable mid reply h.at mid_accepts (get_or h.input.now k.last 0) k.step)
 
     -- and what is done is what the bytes do
-    taking : {done : Applied} {b' : Screen} {reply' : List ℕ} → Applies tells_effect b reply at done b' reply'
-        → Taking (state (session f r p) b) input from reply at (state (session done.frame t.reader (pad_after f p t.event)) b') t.next reply' done.written
-    taking {done} {b'} h =
-        let byte = get_or input k.last 0 in
-        let run = k.quiet f p b in
-        let does = rw (← same_effect) at h in
-        let stands : t.reader ≡ record { phase = t.reader.phase; held = held_after t.held t.event; cr = cr_after r.cr t.event } =
+    taking : {done : Applied} {b' : Screen} {reply' : List ℕ} → Applies tells_effect b reply h.at done b' reply'
+        → Taking (state (session h.frame h.reader p) b) h.input.now h.from reply h.at
+        (state (session done.frame t.reader (pad_after h.frame p t.event)) b') t.next reply' done.written
+    taking {done} {b'} d =
+        let byte = get_or h.input.now k.last 0 in
+        let run = k.quiet h.frame p b in
+        let does = rw (← same_effect) at d in
+        let stands : t.reader ≡ record { phase = t.reader.phase; held = held_after t.held t.event; cr = cr_after h.reader.cr t.event } =
         λ i. record { phase = t.reader.phase; held = k.held i; cr = k.cr i } in
-        let ends = byte_state mid reply at mid_accepts byte k.step does stands in
-        let one = taking_byte mid reply at mid_accepts k.lies (rw (k.pad f p) at ends) (byte_replies mid reply at mid_accepts byte k.step does) in
-        rw k.next (taking_then (taking_run (state (session f r p) b) reply at a run) one)
+        let ends = byte_state mid reply h.at mid_accepts byte k.step does stands in
+        let one = taking_byte mid reply h.at mid_accepts k.lies (rw (k.pad h.frame p) at ends) (byte_replies mid reply h.at mid_accepts byte k.step does) in
+        rw k.next (taking_then (taking_run (state (session h.frame h.reader p) b) reply h.at a run) one)
 
-  pub told_answerable : AcceptsTurn f r lf b reply at → Answerable tells_effect f b reply at
-  told_answerable a = answerable (fresh_with lf) (fresh_prints lf) a
+  pub told_answerable : AcceptsTurn h b reply → Answerable tells_effect h.frame b reply h.at
+  told_answerable a = answerable (fresh_with h.lf) (fresh_prints h.lf) a
 
-  pub told_turns : {done : Applied} {b' : Screen} {reply' : List ℕ} → Applies tells_effect b reply at done b' reply'
-      → (from < t.next)
-      × Turns f r lf b input from reply at
-      (record { frame = done.frame; reader = t.reader; event = t.event; end = t.next; written = done.written }) b' reply'
-  told_turns h =
-      (omega (arith, (k.quiet f (fresh_with lf) b).onward, k.next), λ p prints a. taking p prints a h)
+  pub told_turns : {done : Applied} {b' : Screen} {reply' : List ℕ} → Applies tells_effect b reply h.at done b' reply'
+      → (h.from < t.next)
+      × Turns h b reply (record { frame = done.frame; reader = t.reader; event = t.event; end = t.next; written = done.written }) b' reply'
+  told_turns d =
+      (omega (arith, (k.quiet h.frame (fresh_with h.lf) b).onward, k.next), λ p prints a. taking p prints a d)
 
 -- ---- a stretch, and what is told after it
 
@@ -202,32 +203,38 @@ pad_by_x3 f g p (End option) h = rw h
 pad_by_x3 f g p EndBare h = refl
 pad_by_x3 f g p Lost h = refl
 
-module _ {f : Frame} {r : Reader} {lf : Bool} {b b₁ : Screen} {input : List ℕ} {from at : ℕ} {t : Turn} (reply : List ℕ)
-    (q : QuietTurns f r lf b input from at t b₁) where
-  abbrev quiet : (p : Pad) → prints_lf p.values ≡ lf → QuietRun (state (session f r p) b) input from (state (session t.frame t.reader p) b₁) t.end
+module _ (h : Start) {b b₁ : Screen} {t : Turn} (reply : List ℕ) (q : QuietTurns h b t b₁) where
+  abbrev quiet : (p : Pad) → prints_lf p.values ≡ h.lf
+      → QuietRun (state (session h.frame h.reader p) b) h.input.now h.from (state (session t.frame t.reader p) b₁) t.end
   quiet p prints = (q p prints).run
 
-  pub stretch_accepts : AcceptsTurn f r lf b reply at → AcceptsTurn t.frame t.reader lf b₁ reply at
-  stretch_accepts a = accepts_run (state (session f r (fresh_with lf)) b) reply at a (quiet (fresh_with lf) (fresh_prints lf))
+  pub stretch_accepts : AcceptsTurn h b reply → Accepts (state (session t.frame t.reader (fresh_with h.lf)) b₁) reply h.at
+  stretch_accepts a =
+      accepts_run (state (session h.frame h.reader (fresh_with h.lf)) b) reply h.at a (quiet (fresh_with h.lf) (fresh_prints h.lf))
 
   pub stretch_outside : in_message t.reader.phase ≡ false
-  stretch_outside = (q (fresh_with lf) (fresh_prints lf)).stands
+  stretch_outside = (q (fresh_with h.lf) (fresh_prints h.lf)).stands
 
-  pub stretch_onward : from ≤ t.end
-  stretch_onward = (quiet (fresh_with lf) (fresh_prints lf)).onward
+  pub stretch_onward : h.from ≤ t.end
+  stretch_onward = (quiet (fresh_with h.lf) (fresh_prints h.lf)).onward
 
   -- alone
-  pub stretch_turns : Turns f r lf b input from reply at t b₁ reply
+  pub stretch_turns : Turns h b reply t b₁ reply
   unfolding pad_after
-  stretch_turns p prints a = rw ((q p prints).nothing, (q p prints).same) (taking_run (state (session f r p) b) reply at a (quiet p prints))
+  stretch_turns p prints a =
+      rw ((q p prints).nothing, (q p prints).same) (taking_run (state (session h.frame h.reader p) b) reply h.at a (quiet p prints))
 
   -- and more
-  pub then_turns : (u : Turn) {b₂ : Screen} {reply' : List ℕ} → Turns t.frame t.reader lf b₁ input t.end reply at u b₂ reply'
-      → Turns f r lf b input from reply at u b₂ reply'
+  pub then_turns : (u : Turn) {b₂ : Screen} {reply' : List ℕ}
+      → ((p : Pad) → prints_lf p.values ≡ h.lf → Accepts (state (session t.frame t.reader p) b₁) reply h.at
+      → Taking (state (session t.frame t.reader p) b₁) h.input.now t.end reply h.at
+      (state (session u.frame u.reader (pad_after t.frame p u.event)) b₂) u.end reply' u.written)
+      → Turns h b reply u b₂ reply'
   then_turns u w p prints a =
       let run = quiet p prints in
-      let rest = w p prints (accepts_run (state (session f r p) b) reply at a run) in
-      taking_then (taking_run (state (session f r p) b) reply at a run) (rw (pad_by_x3 t.frame f p u.event (q p prints).x3) at rest)
+      let rest = w p prints (accepts_run (state (session h.frame h.reader p) b) reply h.at a run) in
+      taking_then (taking_run (state (session h.frame h.reader p) b) reply h.at a run)
+      (rw (pad_by_x3 t.frame h.frame p u.event (q p prints).x3) at rest)
 
 -- ---- a whole call
 

@@ -7,9 +7,6 @@ use Prim.Native.Nat.{ℕ, ◌+◌, ◌<◌}
 use borrow.Author.Tests.{eqb-true}
 use lib.Dec.{eqb}
 use lib.ListN.{length, get_or}
-use types.Run.{OneOf, miss}
-use denote.Enum.Declared.{tag_of}
-use Rattle.telnet.specs.contracts.Phase.{the_type}
 use Rattle.words.specs.Stored.{Room, Emitted}
 use Rattle.words.proofs.Laws.{either, not_both}
 use Rattle.telnet.specs.declared.Phase.{Phase}
@@ -34,7 +31,8 @@ use Rattle.reply.specs.Pieces.{message_pieces}
 use Rattle.reply.proofs.ReplyLaws.{wrote_emitted, responded}
 use Rattle.local.specs.declared.message.PadTurn.{PadTurn}
 use Rattle.local.specs.Message.{answer_pieces, Reads}
-use Rattle.det.specs.Inner.Take.{Accepts, in_message, Taking}
+use Rattle.det.specs.Inner.Message.{in_message}
+use Rattle.det.specs.Inner.Take.{Accepts, Taking}
 use Rattle.det.proofs.TakeLaws.{byte_answerable}
 use Rattle.det.proofs.HostLaws.{taking_byte}
 
@@ -112,14 +110,3 @@ module _ (f : Frame) (r : Reader) (p : Pad) (b : Screen) (reply : List ℕ) (at 
       let same : state (session f t.reader t.pad) b ≡ (host_byte s byte).state = rw (k.reader, k.pad, says v r p told inside) in
       let room = (byte_answerable s reply at a byte refl).room in
       taking_byte s reply at a h same (answered v r p told inside b room k.answer)
-
--- what the other arms of a match on a phase know
-pub in_none : (p : Phase) → OneOf (0 ∷ 1 ∷ 2 ∷ 3 ∷ 4 ∷ []) (tag_of the_type p) → false ≡ in_message p
-unfolding in_message
-in_none Rest k = refl
-in_none Iac k = refl
-in_none (Negotiating v) k = refl
-in_none Opening k = refl
-in_none OpeningIac k = refl
-in_none (Inside o) k = absurd (miss (0 ∷ 1 ∷ 2 ∷ 3 ∷ 4 ∷ []) 5 tt k)
-in_none (InsideIac o) k = absurd (miss (0 ∷ 1 ∷ 2 ∷ 3 ∷ 4 ∷ []) 6 tt k)

@@ -35,7 +35,8 @@ use Rattle.rules.proofs.Running.{running_append}
 use Rattle.command.specs.Held.{holding_all}
 use Rattle.det.specs.declared.take.Turn.{Turn}
 use Rattle.text.specs.Text.{Changes, joined, obeyed_bytes, ends_in_cr}
-use Rattle.det.specs.Inner.Take.{in_message, QuietRun, QuietTurn, told_of, Tells}
+use Rattle.det.specs.Inner.Message.{in_message}
+use Rattle.det.specs.Inner.Take.{QuietRun, QuietTurn, told_of, Tells}
 use Rattle.text.proofs.TextLaws.{data_moves, data_only, text_moves}
 
 -- nothing sent, nothing executed

@@ -1,3 +1,4 @@
+pub mod Message
 pub mod Data
 pub mod Apply
 pub mod Take

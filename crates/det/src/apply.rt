@@ -30,7 +30,7 @@ fn change_cells(edit: Edit, chars: &mut [u8], attrs: &[u8])
     ensures { chars.new ≡ changed_all chars.old attrs.now (changes_of edit) }
 {
     match edit {
-        Edit::Nothing => {}
+        Edit::Nothing | Edit::Repeat { .. } => {}
         Edit::Put { cell, byte } => set_cell(chars, cell, byte),
         Edit::Erase {
             suppressed,
@@ -43,22 +43,18 @@ fn change_cells(edit: Edit, chars: &mut [u8], attrs: &[u8])
             end,
             by,
         } => shift_range(chars, from, end, shift, by),
-        Edit::Repeat { count: _, byte: _ } => {}
     }
 }
 
 // 37: a host character so many times.
-#[tactic(auto, using(crate::proofs::ApplyLaws::repeating_more, crate::proofs::ApplyLaws::repeating_end))]
+#[tactic(auto, using(crate::proofs::ApplyLaws::repeating_start, crate::proofs::ApplyLaws::repeating_more, crate::proofs::ApplyLaws::repeating_end))]
 fn repeat(frame: Frame, count: u8, byte: u8, chars: &mut [u8], attrs: &[u8]) -> Frame
     ensures { Changes (edited (seen frame attrs.now) (Edit.Repeat count byte))
         chars.old attrs.now result chars.new }
 {
     let mut cursor = frame.cursor;
-    let mut left = count;
-    while 0 < left {
-        let now = moved(frame, cursor);
-        cursor = put_character(now, byte, chars, attrs);
-        left -= 1;
+    for _done in 0..count {
+        cursor = put_character(moved(frame, cursor), byte, chars, attrs);
     }
     moved(frame, cursor)
 }
@@ -90,13 +86,8 @@ fn mark_edited(edit: Edit, marks: &mut [u8])
     ensures { marks.new ≡ marks_after marks.old (marking_of edit) }
 {
     match edit {
-        Edit::Put { cell, byte } => set_cell(marks, cell, 1),
-        Edit::Shift {
-            shift,
-            from,
-            end,
-            by,
-        } => fill(marks, from, end, 1),
+        Edit::Put { cell, .. } => set_cell(marks, cell, 1),
+        Edit::Shift { from, end, .. } => fill(marks, from, end, 1),
         _ => {}
     }
 }
@@ -129,27 +120,19 @@ fn say_any(
 {
     match say {
         Say::Silent => at,
-        _ => {
-            let spoken = say;
-            write_reply(edition, spoken, chars, attrs, marks, reply, at)
-        }
+        _ => write_reply(edition, say, chars, attrs, marks, reply, at),
     }
 }
 
-#[tactic(auto, using(crate::proofs::ApplyLaws::changes_none))]
 fn change_any(frame: Frame, edit: Edit, chars: &mut [u8], attrs: &[u8]) -> Frame
     ensures { Changes (edited (seen frame attrs.now) edit) chars.old attrs.now result chars.new }
 {
     match edit {
         Edit::Nothing => frame,
-        _ => {
-            let change = edit;
-            change_chars(frame, change, chars, attrs)
-        }
+        _ => change_chars(frame, edit, chars, attrs),
     }
 }
 
-#[tactic(auto, using(reply::proofs::ReplyLaws::said, crate::proofs::ApplyLaws::marking_of_lem))]
 pub(crate) fn apply(
     decision: Decision,
     chars: &mut [u8],
@@ -163,17 +146,16 @@ pub(crate) fn apply(
         (lent chars.old attrs.old marks.old) reply.old at
         result (lent chars.new attrs.new marks.new) reply.new }
 {
-    let decided = decision.frame;
-    let edition = decided.edition;
-    let say = decision.say;
-    let next = say_any(edition, say, chars, attrs, marks, reply, at);
-    let edit = decision.edit;
+    let Decision {
+        frame: decided,
+        edit,
+        say,
+        format,
+        clear,
+    } = decision;
+    let written = say_any(decided.edition, say, chars, attrs, marks, reply, at);
     let frame = change_any(decided, edit, chars, attrs);
-    let format = decision.format;
     format_attrs(format, attrs);
-    mark(decision.clear, edit, marks);
-    Applied {
-        frame: frame,
-        written: next,
-    }
+    mark(clear, edit, marks);
+    Applied { frame, written }
 }

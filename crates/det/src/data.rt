@@ -14,31 +14,16 @@ use text::joined::ends_in_cr;
 fn is_joining(frame: Frame, lf: bool) -> bool
     ensures { result ≡ (line_takes_keys frame && not lf) }
 {
-    if !frame.x3 {
-        return false;
-    }
-    if frame.det {
-        return false;
-    }
-    !lf
+    frame.x3 && !frame.det && !lf
 }
 
-#[tactic(auto, using(screen::proofs::TestLaws::failing, screen::proofs::TestLaws::passing))]
 fn is_passed(frame: Frame, lf: bool, cr: bool, byte: u8) -> bool
     ensures { result ≡ ((line_takes_keys frame && not lf) && (cr && eqb byte 10)) }
 {
-    let joining = is_joining(frame, lf);
-    if !joining {
-        return false;
-    }
-    if cr {
-        return byte == 10;
-    }
-    false
+    is_joining(frame, lf) && cr && byte == 10
 }
 
 // One byte of data: the frame after it.
-#[tactic(auto, using(crate::proofs::TakeLaws::data_passed, crate::proofs::TakeLaws::data_obeyed))]
 pub(crate) fn obey_data(
     frame: Frame,
     lf: bool,
@@ -50,8 +35,7 @@ pub(crate) fn obey_data(
     ensures { Changes (data_effect (seen frame attrs.now) lf cr byte)
         chars.old attrs.now result chars.new }
 {
-    let passed = is_passed(frame, lf, cr, byte);
-    if passed {
+    if is_passed(frame, lf, cr, byte) {
         return frame;
     }
     let cursor = take_data(frame, byte, chars, attrs);
@@ -76,11 +60,9 @@ pub(crate) fn take_bytes(
 ) -> DataTurn
     ensures { DataDone (seen frame attrs.now) lf cr bytes.now chars.old result chars.new }
 {
-    let ends = ends_in_cr(cr, bytes);
     let joins = is_joining(frame, lf);
-    let after = host_text(frame, joins, cr, bytes, chars, attrs);
     DataTurn {
-        frame: after,
-        cr: ends,
+        frame: host_text(frame, joins, cr, bytes, chars, attrs),
+        cr: ends_in_cr(cr, bytes),
     }
 }

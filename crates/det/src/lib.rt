@@ -5,4 +5,5 @@
 mod apply;
 mod data;
 pub mod operation;
+mod start;
 mod take;

@@ -1,17 +1,17 @@
 // Host bytes, and one key. They ask nothing of their caller.
 ghost use Rattle.std.specs.Prelude.{◌≡◌, true, false, List, ℕ};
-ghost use Rattle.rules.specs.Session.{session, screen, state};
+ghost use Rattle.rules.specs.Session.{screen, state};
 ghost use Rattle.rules.specs.Refusal.{verdict};
 ghost use Rattle.rules.specs.Pad.{takes_key};
 ghost use Rattle.rules.specs.Operation.{outcome, host_bytes, press_tests, key_refusal, one_key};
 ghost use Rattle.command.specs.Frame.{lent};
-ghost use Rattle.det.specs.Inner.Take.{Accepts, in_message, host_taken, key_taken};
+ghost use Rattle.det.specs.Inner.Take.{Accepts, host_taken, key_taken};
 
 use crate::apply::{change_chars, mark};
+use crate::start::{Start, in_message};
 use crate::take::take_turn;
 use admit::open::refused;
 use admit::refuse::{refuse, reply_room};
-use command::number::X3;
 use decide::keys::{key_of, press, refuse_pressed};
 use local::message::take_byte;
 use local::told::{ends_other, pad_told};
@@ -19,20 +19,7 @@ use local::typed::{echo_key, refuse_line, send_line, takes_key, type_key};
 use pad::host::prints_lf;
 use pad::message::idle;
 use reply::write_reply;
-use rules::{Answer, Frame, Refusal, Session};
-use telnet::Phase;
-
-// Does the reader stand in a message of option 30? Those go a byte at a time.
-#[tactic(auto, using(crate::proofs::MessageLaws::in_none), unfolding(crate::specs::Inner::Take::in_message))]
-fn in_message(phase: Phase) -> bool
-    ensures { result ≡ in_message phase }
-{
-    match phase {
-        Phase::Inside(option) => option == X3,
-        Phase::InsideIac(option) => option == X3,
-        _ => false,
-    }
-}
+use rules::{Answer, Refusal, Session};
 
 // Host bytes that are not refused: taken from the front while there are any and the reply buffer has room for one more reply.
 fn take_all(
@@ -58,43 +45,40 @@ fn take_all(
         if reply.len() - written < room {
             break;
         }
-        let phase = reader.phase;
-        let inside = in_message(phase);
-        if inside {
-            let byte = input[taken];
+        if in_message(reader.phase) {
+            let one = take_byte(frame, reader, pad, input[taken], reply, written);
             taken += 1;
-            let one = take_byte(frame, reader, pad, byte, reply, written);
             reader = one.reader;
             pad = one.pad;
             lf = prints_lf(pad.values);
             written = one.written;
             continue;
         }
-        let turn = take_turn(
-            frame, reader, lf, input, taken, chars, attrs, marks, reply, written,
-        );
+        let start = Start {
+            input,
+            from: taken,
+            frame,
+            reader,
+            lf,
+            at: written,
+        };
+        let turn = take_turn(start, chars, attrs, marks, reply);
         taken = turn.end;
         written = turn.written;
         reader = turn.reader;
-        let event = turn.event;
-        let other = ends_other(event);
-        if other {
+        if ends_other(turn.event) {
             pad.message = idle();
         } else {
-            pad = pad_told(frame, pad, event);
+            pad = pad_told(frame, pad, turn.event);
             lf = prints_lf(pad.values);
         }
         frame = turn.frame;
     }
     Answer {
-        session: Session {
-            frame: frame,
-            reader: reader,
-            pad: pad,
-        },
+        session: Session { frame, reader, pad },
         refusal: Refusal::Taken,
         taken: taken,
-        written: written,
+        written,
     }
 }
 
@@ -104,17 +88,14 @@ fn refuse_press(session: Session, code: u8, attrs: &[u8]) -> Refusal
     ensures { (chars marks : List ℕ)
         → result ≡ verdict (press_tests (state session (screen chars attrs.now marks)) code) }
 {
-    let takes = takes_key(session.frame, code);
-    if takes {
-        let pad = session.pad;
-        return refuse_line(pad, code);
+    if takes_key(session.frame, code) {
+        refuse_line(session.pad, code)
+    } else {
+        refuse_pressed(session.frame, attrs, key_of(code))
     }
-    let meaning = key_of(code);
-    refuse_pressed(session.frame, attrs, meaning)
 }
 
 // Refusals 1 to 5 and 11, then the key's own.
-#[tactic(auto, using(command::proofs::RefusalLaws::not_taken, crate::proofs::KeyLaws::refused_first, crate::proofs::KeyLaws::refused_last))]
 fn refuse_key(
     session: Session,
     code: u8,
@@ -132,21 +113,7 @@ fn refuse_key(
     refuse_press(session, code, attrs)
 }
 
-// The reader stays where it stands.
-fn with_frame(before: Session, frame: Frame) -> Session
-    ensures { result ≡ session frame before.reader before.pad }
-{
-    let reader = before.reader;
-    let pad = before.pad;
-    Session {
-        frame: frame,
-        reader: reader,
-        pad: pad,
-    }
-}
-
 // A key that is not refused and that the edit line does not take.
-#[tactic(auto, using(crate::proofs::KeyLaws::key_settled))]
 fn take_meaning(
     session: Session,
     code: u8,
@@ -160,25 +127,20 @@ fn take_meaning(
     ensures { outcome result (lent chars.new attrs.now marks.new) reply.new
         ≡ key_taken (state session (lent chars.old attrs.now marks.old)) reply.old code }
 {
-    let meaning = key_of(code);
-    let decision = press(session.frame, attrs, meaning);
+    let decision = press(session.frame, attrs, key_of(code));
     let decided = decision.frame;
-    let edition = decided.edition;
-    let say = decision.say;
-    let written = write_reply(edition, say, chars, attrs, marks, reply, 0);
-    let edit = decision.edit;
-    let frame = change_chars(decided, edit, chars, attrs);
-    mark(decision.clear, edit, marks);
+    let written = write_reply(decided.edition, decision.say, chars, attrs, marks, reply, 0);
+    let frame = change_chars(decided, decision.edit, chars, attrs);
+    mark(decision.clear, decision.edit, marks);
     Answer {
-        session: with_frame(session, frame),
+        session: Session { frame, ..session },
         refusal: Refusal::Taken,
         taken: 1,
-        written: written,
+        written,
     }
 }
 
 // A key that is not refused and that the edit line takes.
-#[tactic(auto, using(crate::proofs::KeyLaws::line_settled))]
 fn take_line(
     session: Session,
     code: u8,
@@ -193,18 +155,17 @@ fn take_line(
         ≡ key_taken (state session (lent chars.old attrs.now marks.now)) reply.old code }
 {
     let pad = session.pad;
-    let reader = session.reader;
     let written = send_line(pad, code, reply);
     let frame = echo_key(session.frame, pad, code, chars, attrs);
     Answer {
         session: Session {
-            frame: frame,
-            reader: reader,
+            frame,
             pad: type_key(pad, code),
+            ..session
         },
         refusal: Refusal::Taken,
         taken: 1,
-        written: written,
+        written,
     }
 }
 
@@ -221,11 +182,11 @@ fn take_key(
     ensures { outcome result (lent chars.new attrs.now marks.new) reply.new
         ≡ key_taken (state session (lent chars.old attrs.now marks.old)) reply.old code }
 {
-    let takes = takes_key(session.frame, code);
-    if takes {
-        return take_line(session, code, chars, attrs, marks, reply);
+    if takes_key(session.frame, code) {
+        take_line(session, code, chars, attrs, marks, reply)
+    } else {
+        take_meaning(session, code, chars, attrs, marks, reply)
     }
-    take_meaning(session, code, chars, attrs, marks, reply)
 }
 
 // Bytes from the host. The answer counts those taken from the input's front, and the reply bytes.

@@ -1,25 +1,27 @@
 // Host bytes, a turn at a time: a stretch of data or of a subnegotiation's bytes, then a whole subnegotiation or one byte.
-ghost use Rattle.std.specs.Prelude.{◌≡◌, Bool, false, List, ℕ, ◌<◌, length};
+ghost use Rattle.std.specs.Prelude.{◌≡◌, List, ℕ, ◌<◌};
 ghost use Rattle.telnet.specs.declared.Phase.TheVariants.{Rest, Inside};
 ghost use Rattle.rules.specs.Session.{Screen, screen};
 ghost use Rattle.command.specs.Frame.{lent, seen};
 ghost use Rattle.command.specs.Inner.Frame.{Fits};
 ghost use Rattle.decide.specs.Decision.{Decides};
-ghost use Rattle.det.specs.Inner.Data.{told_effect, det_effect};
+ghost use Rattle.det.specs.Inner.Data.{told_effect};
 ghost use Rattle.det.specs.Inner.Apply.{Answerable, Applies};
-ghost use Rattle.det.specs.Inner.Take.{AcceptsTurn, in_message, told_of, Tells, QuietTurns, Turns};
+ghost use Rattle.det.specs.Inner.Take.{AcceptsTurn, told_of, TellsNext, effect_at, QuietTurns, Turns};
 
 use crate::apply::{Applied, apply};
 use crate::data::{obey_data, take_bytes};
-use command::held::{cr_after, held_after, held_of, hold_all, none};
+use crate::start::Start;
+use command::held::{held_of, hold_all, none};
 use command::number::X3;
 use decide::decision::{Decision, Edit, Format, Say};
 use decide::negotiate::negotiate;
 use decide::obey::decide_end;
+use local::message::read_byte;
 use rules::{Frame, Held, Reader};
 use telnet::ahead::{Ahead, look_ahead};
 use telnet::stretch::{data_at, payload_at};
-use telnet::{Event, Phase, read};
+use telnet::{Event, Phase};
 
 // Where some bytes leave the frame and the reader, what was told last, where they end in the input, and where the next reply goes. The
 // PAD is left to the caller, who tells it: it is large, and a turn is short.
@@ -32,6 +34,15 @@ pub struct Turn {
     pub written: usize,
 }
 
+// What is told next: `held` is what was held before it, `reader` stands after it, at `next`.
+#[derive(Clone, Copy)]
+pub struct Told {
+    pub event: Event,
+    pub held: Held,
+    pub reader: Reader,
+    pub next: usize,
+}
+
 // What is done on an event other than data that ends no message of option 30.
 #[tactic(auto, unfolding(crate::specs::Inner::Data::told_effect))]
 fn decide_event(frame: Frame, attrs: &[u8], held: Held, event: Event) -> Decision
@@ -42,7 +53,7 @@ fn decide_event(frame: Frame, attrs: &[u8], held: Held, event: Event) -> Decisio
         Event::Negotiation { verb, option } => negotiate(frame, verb, option),
         Event::End(option) => decide_end(frame, attrs, held, option),
         _ => Decision {
-            frame: frame,
+            frame,
             edit: Edit::Nothing,
             say: Say::Silent,
             format: Format::Keep,
@@ -51,47 +62,31 @@ fn decide_event(frame: Frame, attrs: &[u8], held: Held, event: Event) -> Decisio
     }
 }
 
-// Does what an event asks for that ends no message of option 30. `held` and `cr` are as before it.
+// Does what an event asks for that ends no message of option 30.
 #[tactic(auto, unfolding(crate::specs::Inner::Data::det_effect))]
 fn happen(
-    frame: Frame,
-    lf: bool,
-    held: Held,
-    cr: bool,
-    event: Event,
+    here: Start,
+    told: Told,
     chars: &mut [u8],
     attrs: &mut [u8],
     marks: &mut [u8],
     reply: &mut [u8],
-    at: usize,
 ) -> Applied
-    requires { Answerable (det_effect (seen frame attrs.old) lf held cr event) frame (lent chars.old attrs.old marks.old) reply.old at }
-    ensures { Applies (det_effect (seen frame attrs.old) lf held cr event)
-        (lent chars.old attrs.old marks.old) reply.old at
+    requires { Answerable (effect_at here told attrs.old) here.frame (lent chars.old attrs.old marks.old) reply.old here.at }
+    ensures { Applies (effect_at here.entry told attrs.old)
+        (lent chars.old attrs.old marks.old) reply.old here.entry.at
         result (lent chars.new attrs.new marks.new) reply.new }
 {
-    match event {
-        Event::Data(byte) => {
-            let after = obey_data(frame, lf, cr, byte, chars, attrs);
-            Applied {
-                frame: after,
-                written: at,
-            }
-        }
+    match told.event {
+        Event::Data(byte) => Applied {
+            frame: obey_data(here.frame, here.lf, here.reader.cr, byte, chars, attrs),
+            written: here.at,
+        },
         _ => {
-            let decision = decide_event(frame, attrs, held, event);
-            apply(decision, chars, attrs, marks, reply, at)
+            let decision = decide_event(here.frame, attrs, told.held, told.event);
+            apply(decision, chars, attrs, marks, reply, here.at)
         }
     }
-}
-
-// What is told next: `held` is what was held before it, `reader` stands after it, at `next`.
-#[derive(Clone, Copy)]
-pub struct Told {
-    pub event: Event,
-    pub held: Held,
-    pub reader: Reader,
-    pub next: usize,
 }
 
 // The byte before `next`, asked of the reader.
@@ -99,223 +94,153 @@ pub struct Told {
 fn told_byte(reader: Reader, byte: u8, next: usize) -> Told
     ensures { result ≡ told_of reader byte next }
 {
-    let phase = reader.phase;
-    let step = read(phase, byte);
-    let event = step.event;
-    let after = step.phase;
-    let held = reader.held;
+    let read = read_byte(reader, byte);
     Told {
-        event: event,
-        held: held,
-        reader: Reader {
-            phase: after,
-            held: held_after(held, event),
-            cr: cr_after(reader.cr, event),
-        },
-        next: next,
+        event: read.event,
+        held: reader.held,
+        reader: read.reader,
+        next,
     }
 }
 
 // A whole subnegotiation tells its end, but one of option 30 goes a byte at a time; any other byte is asked of the reader.
-#[tactic(auto, using(telnet::proofs::AheadLaws::ahead_stands, crate::proofs::QuietLaws::told_whole, crate::proofs::QuietLaws::told_next))]
-fn told_at(reader: Reader, input: &[u8], from: usize) -> Told
-    requires outside_message { in_message reader.phase ≡ false }
-    requires more { from < length input.now }
-    ensures { Tells reader input.now from result }
+#[tactic(auto, using(crate::proofs::QuietLaws::told_next))]
+fn told_at(here: Start) -> Told
+    ensures { TellsNext here.entry result }
 {
-    let phase = reader.phase;
-    let ahead = look_ahead(phase, input, from);
-    match ahead {
+    let input = here.input;
+    let reader = here.reader;
+    match look_ahead(reader.phase, input, here.from) {
         Ahead::WholeSub {
             option,
             start,
             end,
             next,
-        } => {
-            if option == X3 {
-                return told_byte(reader, input[from], from + 1);
-            }
-            Told {
-                event: Event::End(option),
-                held: held_of(&input[start..end]),
-                reader: Reader {
-                    phase: Phase::Rest,
-                    held: none(),
-                    cr: reader.cr,
-                },
-                next: next,
-            }
-        }
-        Ahead::Other => told_byte(reader, input[from], from + 1),
+        } if option != X3 => Told {
+            event: Event::End(option),
+            held: held_of(&input[start..end]),
+            reader: Reader {
+                phase: Phase::Rest,
+                held: none(),
+                cr: reader.cr,
+            },
+            next,
+        },
+        _ => told_byte(reader, input[here.from], here.from + 1),
     }
 }
 
 // A whole subnegotiation, or one byte.
-#[tactic(auto, using(crate::proofs::HostLaws::told_answerable, crate::proofs::HostLaws::told_turns))]
 fn take_told(
-    frame: Frame,
-    reader: Reader,
-    lf: bool,
-    input: &[u8],
-    from: usize,
+    here: Start,
     chars: &mut [u8],
     attrs: &mut [u8],
     marks: &mut [u8],
     reply: &mut [u8],
-    at: usize,
 ) -> Turn
-    requires accepts_turn { AcceptsTurn frame reader lf (lent chars.old attrs.old marks.old) reply.old at }
-    requires outside_message { in_message reader.phase ≡ false }
-    requires more { from < length input.now }
-    ensures onward { from < result.end }
-    ensures turns { Turns frame reader lf (lent chars.old attrs.old marks.old) input.now from
-        reply.old at result (lent chars.new attrs.new marks.new) reply.new }
+    requires { AcceptsTurn here (lent chars.old attrs.old marks.old) reply.old }
+    ensures onward { here.entry.from < result.end }
+    ensures turns { Turns here.entry (lent chars.old attrs.old marks.old) reply.old
+        result (lent chars.new attrs.new marks.new) reply.new }
 {
-    let told = told_at(reader, input, from);
-    let held = told.held;
-    let event = told.event;
-    let done = happen(
-        frame, lf, held, reader.cr, event, chars, attrs, marks, reply, at,
-    );
-    let after = done.frame;
-    let next = told.reader;
+    let told = told_at(here);
+    let done = happen(here, told, chars, attrs, marks, reply);
     Turn {
-        frame: after,
-        reader: next,
-        event: event,
+        frame: done.frame,
+        reader: told.reader,
+        event: told.event,
         end: told.next,
         written: done.written,
     }
 }
 
 // At rest: the data up to the next IAC, and that IAC.
-#[tactic(auto, using(crate::proofs::QuietLaws::lies, crate::proofs::QuietLaws::text_turn, crate::proofs::QuietLaws::joins_by))]
-fn take_text(
-    frame: Frame,
-    reader: Reader,
-    lf: bool,
-    input: &[u8],
-    from: usize,
-    chars: &mut [u8],
-    attrs: &[u8],
-    at: usize,
-) -> Turn
-    requires at_rest { reader.phase ≡ Rest }
-    requires more { from < length input.now }
-    ensures { (marks : List ℕ) → QuietTurns frame reader lf (screen chars.old attrs.now marks)
-        input.now from at result (screen chars.new attrs.now marks) }
+#[tactic(auto, using(crate::proofs::QuietLaws::lies))]
+fn take_text(here: Start, chars: &mut [u8], attrs: &[u8]) -> Turn
+    requires { here.reader.phase ≡ Rest }
+    ensures { (marks : List ℕ) → QuietTurns here.entry (screen chars.old attrs.now marks)
+        result (screen chars.new attrs.now marks) }
 {
-    let stretch = data_at(input, from);
-    let end = stretch.end;
-    let done = take_bytes(frame, lf, reader.cr, &input[from..end], chars, attrs);
-    let after = done.frame;
-    let next = stretch.phase;
-    let held = reader.held;
+    let stretch = data_at(here.input, here.from);
+    let bytes = &here.input[here.from..stretch.end];
+    let done = take_bytes(here.frame, here.lf, here.reader.cr, bytes, chars, attrs);
     Turn {
-        frame: after,
+        frame: done.frame,
         reader: Reader {
-            phase: next,
-            held: held,
+            phase: stretch.phase,
             cr: done.cr,
+            ..here.reader
         },
         event: Event::Nothing,
         end: stretch.next,
-        written: at,
+        written: here.at,
     }
 }
 
 // In the subnegotiation of this option: its bytes up to the next IAC, and that IAC.
-#[tactic(auto, using(crate::proofs::QuietLaws::lies, crate::proofs::QuietLaws::payload_turn, crate::proofs::QuietLaws::inside_other))]
-fn take_payload(
-    option: u8,
-    frame: Frame,
-    reader: Reader,
-    input: &[u8],
-    from: usize,
-    at: usize,
-) -> Turn
-    requires inside { reader.phase ≡ Inside option }
-    requires outside_message { in_message reader.phase ≡ false }
-    requires more { from < length input.now }
-    ensures { (lf : Bool) (b : Screen) → QuietTurns frame reader lf b input.now from at result b }
+#[tactic(auto, using(crate::proofs::QuietLaws::lies))]
+fn take_payload(option: u8, here: Start) -> Turn
+    requires { here.reader.phase ≡ Inside option }
+    ensures { (b : Screen) → QuietTurns here.entry b result b }
 {
-    let stretch = payload_at(option, input, from);
-    let end = stretch.end;
-    let held = reader.held;
-    let after = hold_all(held, &input[from..end]);
-    let next = stretch.phase;
+    let stretch = payload_at(option, here.input, here.from);
+    let bytes = &here.input[here.from..stretch.end];
     Turn {
-        frame: frame,
+        frame: here.frame,
         reader: Reader {
-            phase: next,
-            held: after,
-            cr: reader.cr,
+            phase: stretch.phase,
+            held: hold_all(here.reader.held, bytes),
+            ..here.reader
         },
         event: Event::Nothing,
         end: stretch.next,
-        written: at,
+        written: here.at,
     }
 }
 
 // The stretch that the reader stands in, if it stands in one. It draws no reply.
 #[tactic(auto, using(crate::proofs::QuietLaws::run_none))]
-fn take_stretch(
-    frame: Frame,
-    reader: Reader,
-    lf: bool,
-    input: &[u8],
-    from: usize,
-    chars: &mut [u8],
-    attrs: &[u8],
-    at: usize,
-) -> Turn
-    requires outside_message { in_message reader.phase ≡ false }
-    requires more { from < length input.now }
-    ensures { (marks : List ℕ) → QuietTurns frame reader lf (screen chars.old attrs.now marks)
-        input.now from at result (screen chars.new attrs.now marks) }
+fn take_stretch(here: Start, chars: &mut [u8], attrs: &[u8]) -> Turn
+    ensures { (marks : List ℕ) → QuietTurns here.entry (screen chars.old attrs.now marks)
+        result (screen chars.new attrs.now marks) }
 {
-    let phase = reader.phase;
-    match phase {
-        Phase::Rest => take_text(frame, reader, lf, input, from, chars, attrs, at),
-        Phase::Inside(option) => take_payload(option, frame, reader, input, from, at),
+    match here.reader.phase {
+        Phase::Rest => take_text(here, chars, attrs),
+        Phase::Inside(option) => take_payload(option, here),
         _ => Turn {
-            frame: frame,
-            reader: reader,
+            frame: here.frame,
+            reader: here.reader,
             event: Event::Nothing,
-            end: from,
-            written: at,
+            end: here.from,
+            written: here.at,
         },
     }
 }
 
 // A stretch, and what is told after it.
 pub(crate) fn take_turn(
-    frame: Frame,
-    reader: Reader,
-    lf: bool,
-    input: &[u8],
-    from: usize,
+    here: Start,
     chars: &mut [u8],
     attrs: &mut [u8],
     marks: &mut [u8],
     reply: &mut [u8],
-    at: usize,
 ) -> Turn
-    requires accepts_turn { AcceptsTurn frame reader lf (lent chars.old attrs.old marks.old) reply.old at }
-    requires outside_message { in_message reader.phase ≡ false }
-    requires more { from < length input.now }
-    ensures onward { from < result.end }
-    ensures turns { Turns frame reader lf (lent chars.old attrs.old marks.old) input.now from
-        reply.old at result (lent chars.new attrs.new marks.new) reply.new }
+    requires { AcceptsTurn here (lent chars.old attrs.old marks.old) reply.old }
+    ensures onward { here.entry.from < result.end }
+    ensures turns { Turns here.entry (lent chars.old attrs.old marks.old) reply.old
+        result (lent chars.new attrs.new marks.new) reply.new }
 {
-    let stretch = take_stretch(frame, reader, lf, input, from, chars, attrs, at);
-    let next = stretch.end;
-    if input.len() <= next {
+    let stretch = take_stretch(here, chars, attrs);
+    if here.input.len() <= stretch.end {
         return stretch;
     }
-    let after = stretch.frame;
-    let stands = stretch.reader;
-    take_told(
-        after, stands, lf, input, next, chars, attrs, marks, reply, at,
-    )
+    let next = Start {
+        input: here.input,
+        from: stretch.end,
+        frame: stretch.frame,
+        reader: stretch.reader,
+        lf: here.lf,
+        at: here.at,
+    };
+    take_told(next, chars, attrs, marks, reply)
 }

@@ -22,10 +22,8 @@ fn tell(answer: Answer, session: &mut [u8]) -> u8
     ensures number { result ≡ number_of answer.refusal }
     ensures session { session.new ≡ encoded answer.session }
 {
-    let next = answer.session;
-    encode(next, session);
-    let refusal = answer.refusal;
-    number_of(refusal)
+    encode(answer.session, session);
+    number_of(answer.refusal)
 }
 
 // The same, and the answer's two counts.
@@ -51,7 +49,7 @@ fn no_session(taken: &mut usize, written: &mut usize) -> u8
 fn key_byte(code: u32) -> u8
     ensures { result ≡ key_byte code }
 {
-    if code < 256 { code as u8 } else { 255 }
+    u8::try_from(code).unwrap_or(255)
 }
 
 // Open, in the edition of this number. The session's place is of a session's length, whatever stands there.
@@ -93,8 +91,7 @@ pub extern "C" fn det_host(
         (lent chars.new attrs.new marks.new) reply.new
         ≡ host_call session.old input.now (lent chars.old attrs.old marks.old) reply.old }
 {
-    let known = is_session(session);
-    if !known {
+    if !is_session(session) {
         return no_session(taken, written);
     }
     let answer = host_bytes(decode(session), input, chars, attrs, marks, reply);
@@ -118,8 +115,7 @@ pub extern "C" fn det_key(
         (lent chars.new attrs.now marks.new) reply.new
         ≡ key_call session.old code (lent chars.old attrs.now marks.old) reply.old }
 {
-    let known = is_session(session);
-    if !known {
+    if !is_session(session) {
         return no_session(taken, written);
     }
     let answer = key(decode(session), key_byte(code), chars, attrs, marks, reply);

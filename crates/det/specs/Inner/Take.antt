@@ -1,7 +1,6 @@
 -- Host bytes, and one key: what is asked for them to be taken, what some bytes do, and what a call comes to.
 use Rattle.std.specs.Prelude.{◌≡◌, Bool, false, List, [], ℕ, ◌+◌, ◌-◌, ◌≤◌, ◌<◌, length, get_or, drop, if◌then◌else◌}
 use Rattle.telnet.specs.declared.Phase.{Phase}
-use Rattle.telnet.specs.declared.Phase.TheVariants.{Rest, Iac, Negotiating, Opening, OpeningIac, Inside, InsideIac}
 use Rattle.telnet.specs.declared.Event.TheVariants.{Nothing, End}
 use Rattle.telnet.specs.Reader.{tells, read_of}
 use Rattle.telnet.specs.Stream.{part}
@@ -13,13 +12,17 @@ use Rattle.rules.specs.declared.Frame.{Frame}
 use Rattle.rules.specs.declared.Reader.{Reader}
 use Rattle.rules.specs.declared.Pad.{Pad}
 use Rattle.rules.specs.declared.Refusal.TheVariants.{Taken}
-use Rattle.rules.specs.Session.{Screen, State, pad_with, session, state}
+use Rattle.rules.specs.Session.{Screen, State, pad_with, session, state, view}
+use Rattle.rules.specs.Effect.{Effect}
 use Rattle.rules.specs.Telnet.{held_after, cr_after}
 use Rattle.rules.specs.Pad.{is_x3, pad_after}
-use Rattle.rules.specs.Operation.{Outcome, running, answering, taken_of, host_refusal, host_ran, key_ran}
+use Rattle.rules.specs.Operation.{Outcome, reader_after, running, answering, taken_of, host_refusal, host_ran, key_ran}
 use Rattle.words.specs.Stored.{Emitted}
+use Rattle.det.specs.declared.start.Start.{Start}
 use Rattle.det.specs.declared.take.Turn.{Turn}
 use Rattle.det.specs.declared.take.Told.{Told}
+use Rattle.det.specs.Inner.Message.{in_message}
+use Rattle.det.specs.Inner.Data.{det_effect}
 
 -- ---- what is asked
 
@@ -32,18 +35,8 @@ Accepts s reply at = host_refusal s (drop at reply) ≡ Taken
 abbrev pub fresh_with : Bool → Pad
 fresh_with lf = pad_with (with_pair start_values 13 (if lf then 1 else 0)) (line_of []) idle_message
 
-abbrev pub AcceptsTurn : Frame → Reader → Bool → Screen → List ℕ → ℕ → Type 0
-AcceptsTurn f r lf b reply at = Accepts (state (session f r (fresh_with lf)) b) reply at
-
--- the reader stands in a message of option 30
-unfoldable pub in_message : Phase → Bool
-in_message Rest = false
-in_message Iac = false
-in_message (Negotiating verb) = false
-in_message Opening = false
-in_message OpeningIac = false
-in_message (Inside option) = is_x3 option
-in_message (InsideIac option) = is_x3 option
+abbrev pub AcceptsTurn : Start → Screen → List ℕ → Type 0
+AcceptsTurn h b reply = Accepts (state (session h.frame h.reader (fresh_with h.lf)) b) reply h.at
 
 -- ---- some bytes of the input
 
@@ -74,20 +67,14 @@ pub record QuietTurn (s : State) (input : List ℕ) (from at : ℕ) (t : Turn) (
   pub x3 : t.frame.x3 ≡ s.session.frame.x3
 
 -- the same, whatever the PAD is whose parameter 13 it goes by
-abbrev pub QuietTurns : Frame → Reader → Bool → Screen → List ℕ → ℕ → ℕ → Turn → Screen → Type 0
-QuietTurns f r lf b input from at t b' =
-    (p : Pad) → prints_lf p.values ≡ lf → QuietTurn (state (session f r p) b) input from at t p b'
+abbrev pub QuietTurns : Start → Screen → Turn → Screen → Type 0
+QuietTurns h b t b' =
+    (p : Pad) → prints_lf p.values ≡ h.lf → QuietTurn (state (session h.frame h.reader p) b) h.input.now h.from h.at t p b'
 
 -- what one byte tells
 unfoldable pub told_of : Reader → ℕ → ℕ → Told
 told_of r byte next =
-    let step = read_of r.phase byte in
-    record {
-      event = step.event;
-      held = r.held;
-      reader = record { phase = step.phase; held = held_after r.held step.event; cr = cr_after r.cr step.event };
-      next = next;
-    }
+    record { event = (read_of r.phase byte).event; held = r.held; reader = reader_after r byte; next = next }
 
 -- What is told next to a reader at `from`: the bytes before the last one draw no reply and lead to what is held, whatever the frame, the
 -- PAD and the screen are, and the last one tells it. It is no end of a message of option 30.
@@ -107,12 +94,19 @@ pub record Tells (r : Reader) (input : List ℕ) (from : ℕ) (t : Told) : Type 
   pub cr : t.reader.cr ≡ cr_after r.cr t.event
   pub unasked : (option : ℕ) → t.event ≡ End option → is_x3 option ≡ false
 
+abbrev pub TellsNext : Start → Told → Type 0
+TellsNext h t = Tells h.reader h.input.now h.from t
+
+-- what is done on it
+abbrev pub effect_at : Start → Told → List ℕ → Effect
+effect_at h t attrs = det_effect (view h.frame attrs) h.lf t.held h.reader.cr t.event
+
 -- A turn, whatever the PAD is whose parameter 13 it goes by: the PAD is then told what was told last.
-abbrev pub Turns : Frame → Reader → Bool → Screen → List ℕ → ℕ → List ℕ → ℕ → Turn → Screen → List ℕ → Type 0
-Turns f r lf b input from reply at t b' reply' =
-    (p : Pad) → prints_lf p.values ≡ lf → Accepts (state (session f r p) b) reply at
-    → Taking (state (session f r p) b) input from reply at
-    (state (session t.frame t.reader (pad_after f p t.event)) b') t.end reply' t.written
+abbrev pub Turns : Start → Screen → List ℕ → Turn → Screen → List ℕ → Type 0
+Turns h b reply t b' reply' =
+    (p : Pad) → prints_lf p.values ≡ h.lf → Accepts (state (session h.frame h.reader p) b) reply h.at
+    → Taking (state (session h.frame h.reader p) b) h.input.now h.from reply h.at
+    (state (session t.frame t.reader (pad_after h.frame p t.event)) b') t.end reply' t.written
 
 -- ---- what a call comes to
 

@@ -11,5 +11,5 @@ returns c =
       changes = record { frame = done.frame; characters = done.characters };
       attributes = c.format_attrs.ensures;
       marks = c.mark.ensures ∙ rw (marking_of_lem _ c.args.decision.edit);
-      replies = said c.requires c.say_any-next.ensures;
+      replies = said c.requires c.say_any-written.ensures;
     }

@@ -7,28 +7,28 @@ use Rattle.local.proofs.ToldLaws.{other_clears}
 use Rattle.det.proofs.HostLaws.{accepts_turn, taking_none, taking_then, taking_room, taking_accepts, taking_done}
 use Rattle.det.proofs.MessageLaws.{message_taking}
 use Rattle.det.proofs.operation.take_all.Goals as goal
-use Rattle.det.proofs.operation.take_all.Goals.{then-other, else-other}
+use Rattle.det.proofs.operation.take_all.Goals.{then-ends_other, else-ends_other}
 
 pub loop-taken-init : goal.loop-taken-init
 loop-taken-init c = (taking_none (omega arith) (omega arith), refl, refl, refl, refl, c.prints_lf-lf.ensures)
 
 -- a byte in a half-read message
-pub loop-taken-preserved-then-inside : goal.loop-taken-preserved-then-inside
-loop-taken-preserved-then-inside c =
+pub loop-taken-preserved-then-in_message : goal.loop-taken-preserved-then-in_message
+loop-taken-preserved-then-in_message c =
     let i = c.loop-taken.invariant in
     let a = taking_accepts i.0 c.requires (omega (arith, c.reply_room-room.ensures, c.if-reply-written.false)) in (
       taking_then i.0
-          (message_taking _ _ _ _ _ _ a (sym c.in_message-inside.ensures ∙ c.if-inside.true) c.loop-taken-test.true
+          (message_taking _ _ _ _ _ _ a (sym c.in_message.ensures ∙ c.if-in_message.true) c.loop-taken-test.true
           c.take_byte-one.ensures),
       i.1,
       i.2,
       i.3,
       search rules,
-      c.prints_lf-lf-then-inside.ensures,
+      c.prints_lf-lf-then-in_message.ensures,
     )
 
-pub take_turn-turn-requires-clause-accepts_turn : goal.take_turn-turn-requires-clause-accepts_turn
-take_turn-turn-requires-clause-accepts_turn c =
+pub take_turn-turn-requires : goal.take_turn-turn-requires
+take_turn-turn-requires c =
     let i = c.loop-taken.invariant in
     accepts_turn _ _ _ c.loop-taken.lf _ c.loop-taken.reply c.loop-taken.written
     (taking_accepts i.0 c.requires (omega (arith, c.reply_room-room.ensures, c.if-reply-written.false)))
@@ -38,17 +38,17 @@ pub loop-taken-preserved : goal.loop-taken-preserved
 loop-taken-preserved c =
     let i = c.loop-taken.invariant in
     let a = taking_accepts i.0 c.requires (omega (arith, c.reply_room-room.ensures, c.if-reply-written.false)) in
-    let told : c.if-other.pad ≡ pad_after c.loop-taken.frame c.loop-taken.pad c.take_turn-turn.result.event =
-    elim c.if-other.branch [
-      | then-other w ↦
+    let told : c.if-ends_other.pad ≡ pad_after c.loop-taken.frame c.loop-taken.pad c.take_turn-turn.result.event =
+    elim c.if-ends_other.branch [
+      | then-ends_other w ↦
           w.pad-is ∙ ap (with_message c.loop-taken.pad) w.idle-pad.ensures
-          ∙ sym (other_clears _ _ _ (sym c.ends_other-other.ensures ∙ w.if-other.true))
-      | else-other w ↦ w.pad-is ∙ w.pad_told-pad.ensures
+          ∙ sym (other_clears _ _ _ (sym c.ends_other.ensures ∙ w.if-ends_other.true))
+      | else-ends_other w ↦ w.pad-is ∙ w.pad_told-pad.ensures
     ] in
-    let prints : c.if-other.lf ≡ prints_lf c.if-other.pad.values =
-    elim c.if-other.branch [
-      | then-other w ↦ w.lf-is ∙ i.5 ∙ ap (λ (p : Pad). prints_lf p.values) (sym w.pad-is)
-      | else-other w ↦ w.lf-is ∙ w.prints_lf-lf-else-other.ensures ∙ ap (λ (p : Pad). prints_lf p.values) (sym w.pad-is)
+    let prints : c.if-ends_other.lf ≡ prints_lf c.if-ends_other.pad.values =
+    elim c.if-ends_other.branch [
+      | then-ends_other w ↦ w.lf-is ∙ i.5 ∙ ap (λ (p : Pad). prints_lf p.values) (sym w.pad-is)
+      | else-ends_other w ↦ w.lf-is ∙ w.prints_lf-lf-else-ends_other.ensures ∙ ap (λ (p : Pad). prints_lf p.values) (sym w.pad-is)
     ] in (
       taking_then i.0 (rw (← told) at (c.take_turn-turn.ensures.turns _ (sym i.5) a)),
       search rules,

@@ -4,4 +4,4 @@ use Rattle.det.proofs.take.happen.Goals as goal
 
 pub returns-in-Data : goal.returns-in-Data
 unfolding det_effect
-returns-in-Data c = rw c.in-Data.is (data_applies _ _ _ _ c.obey_data-after.ensures)
+returns-in-Data c = rw c.in-Data.is (data_applies _ _ _ _ c.obey_data.ensures)

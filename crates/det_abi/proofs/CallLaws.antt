@@ -19,7 +19,6 @@ use Rattle.rules.specs.Refusal.{number_of, is_taken, verdict, open_tests}
 use Rattle.rules.specs.Key.{key_of}
 use Rattle.rules.specs.Pad.{takes_key}
 use Rattle.rules.specs.Operation.{Outcome, outcome, unless, host_refusal, host_bytes, key_refusal, one_key, opened}
-use Rattle.screen.proofs.TestLaws.{failing, passing}
 use Rattle.layout.specs.Layout.{session_length, is_session, encoded, decoded}
 use Rattle.det_abi.specs.Calls.{Result, result_of, told, no_session, provided, open_call, host_call, key_call, key_byte, Gives}
 use Rattle.layout.proofs.LayoutLaws.{encoded_decoded}
@@ -97,27 +96,27 @@ module _ (m n named : ℕ) (session : List ℕ) (b : Screen) where
       }))
 
 -- host bytes and a key: no session, or the answer given
-module _ (session : List ℕ) (b : Screen) (reply : List ℕ) {found : Bool} (e : found ≡ is_session session) where
-  module _ {number taken written : ℕ} (f : not found ≡ true) (h : (number ≡ 255) × (taken ≡ 0) × (written ≡ 0)) where
+module _ (session : List ℕ) (b : Screen) (reply : List ℕ) where
+  module _ {number taken written : ℕ} (none : false ≡ is_session session) (h : (number ≡ 255) × (taken ≡ 0) × (written ≡ 0)) where
     pub host_none : (input : List ℕ) → result_of number session taken written b reply ≡ host_call session input b reply
     unfolding host_call provided
-    host_none input = rw (failing e f) (returns_none h)
+    host_none input = rw (← none) (returns_none h)
 
     pub key_none : (key : ℕ) → result_of number session taken written b reply ≡ key_call session key b reply
     unfolding key_call provided
-    key_none key = rw (failing e f) (returns_none h)
+    key_none key = rw (← none) (returns_none h)
 
-  module _ {s : Session} {a : Answer} {number : ℕ} {session' : List ℕ} {taken written : ℕ} {b' : Screen} {reply' : List ℕ} (t : not found ≡ false)
+  module _ {s : Session} {a : Answer} {number : ℕ} {session' : List ℕ} {taken written : ℕ} {b' : Screen} {reply' : List ℕ} (found : true ≡ is_session session)
       (d : s ≡ decoded session) (g : Gives a number session' taken written) where
     pub host_done : (input : List ℕ) → outcome a b' reply' ≡ host_bytes (state s b) reply input
         → result_of number session' taken written b' reply' ≡ host_call session input b reply
     unfolding host_call provided
-    host_done input h = rw (passing e t) (returns_told (rw d at h) g)
+    host_done input h = rw (← found) (returns_told (rw d at h) g)
 
     pub key_done : (key : ℕ) {code : ℕ} → code ≡ key_byte key → outcome a b' reply' ≡ one_key (state s b) reply code
         → result_of number session' taken written b' reply' ≡ key_call session key b reply
     unfolding key_call provided
-    key_done key c h = rw (passing e t) (returns_told (rw (d, c, key_capped _ reply key) at h) g)
+    key_done key c h = rw (← found) (returns_told (rw (d, c, key_capped _ reply key) at h) g)
 
 -- ---- a call that is refused leaves the session's bytes, and all else, as they came
 

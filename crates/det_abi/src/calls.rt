@@ -54,7 +54,7 @@ fn key_byte(code: u32) -> u8
 
 // Open, in the edition of this number. The session's place is of a session's length, whatever stands there.
 #[unsafe(no_mangle)]
-#[tactic(auto, using(crate::proofs::CallLaws::open_none, crate::proofs::CallLaws::open_done))]
+#[tactic(auto, using(crate::proofs::CallLaws::open_none))]
 pub extern "C" fn det_open(
     width: usize,
     height: usize,

@@ -1,38 +1,26 @@
 -- Laws of refusals: lists of tests, and the sizes.
-use mathlib.Core.Path.{◌≡◌, refl}
-use mathlib.Core.Bool.{Bool, true, false, not, ◌&&◌}
-use mathlib.Core.List.{List, [], ◌∷◌, ◌++◌}
-use Prim.Native.Nat.{ℕ, suc, ◌+◌, ◌*◌, ◌≤◌, ◌<◌, min, max}
-use native.Mathlib.Omega.{arith}
-use native.Mathlib.Numerals.{add-one}
-use borrow.Author.Tests.{leb-true, leb-false, le-leb, lt-leb}
-use lib.Dec.{leb}
-use lib.ListN.{length, get_or, drop}
-use lib.Seq.{drop-cons}
+use Rattle.std.proofs.Common.{◌≡◌, refl, true, ◌&&◌, List, [], ◌∷◌, ◌++◌, ℕ, ◌*◌, ◌≤◌, leb, Ok, Err}
+use borrow.Author.Tests.{leb-true}
 use Rattle.words.specs.Words.{between}
-use Rattle.words.proofs.Laws.{true_or_false, not_both, and_left, and_right}
+use Rattle.words.proofs.Laws.{true_or_false, and_left, and_right}
 use Rattle.screen.proofs.CellLaws.{cells_few}
-use Rattle.rules.specs.declared.Refusal.TheVariants.{Taken}
-use Rattle.rules.specs.Session.{sizes_ok, all_printable, all_marks}
-use Rattle.rules.specs.Refusal.{Test, is_taken, verdict}
-use Rattle.rules.proofs.Refusals.{refuses}
+use Rattle.rules.specs.declared.Refusal.{Refusal}
+use Rattle.rules.specs.Session.{sizes_ok}
+use Rattle.rules.specs.Refusal.{Test, verdict}
 
 -- ---- some tests, and then others
 
 -- the others decide where the first are passed
-pub passed_on : (ts us : List Test) → refuses ts ≡ true → verdict ts ≡ Taken → verdict (ts ++ us) ≡ verdict us
+pub passed_on : (ts us : List Test) → verdict ts ≡ Ok tt → verdict (ts ++ us) ≡ verdict us
 unfolding verdict
-passed_on [] us r e = refl
-passed_on (t ∷ ts) us r e =
-    true_or_false t.passes
-    (λ p. rw p (passed_on ts us (and_right (not (is_taken t.otherwise)) _ r) (rw p at e)))
-    (λ p. let o : t.otherwise ≡ Taken = rw p at e in not_both false (rw o at r) refl)
+passed_on [] us e = refl
+passed_on (t ∷ ts) us e = true_or_false t.passes (λ p. rw p (passed_on ts us (rw p at e))) (λ p. absurd (let q = rw p at e in cc))
 
 -- where one of the first fails, it decides
-pub failed_first : (ts us : List Test) → is_taken (verdict ts) ≡ false → verdict (ts ++ us) ≡ verdict ts
+pub failed_first : (ts us : List Test) {r : Refusal} → verdict ts ≡ Err r → verdict (ts ++ us) ≡ Err r
 unfolding verdict
-failed_first [] us e = not_both true refl e
-failed_first (t ∷ ts) us e = true_or_false t.passes (λ p. rw p (failed_first ts us (rw p at e))) (λ p. rw p)
+failed_first [] us e = cc
+failed_first (t ∷ ts) us e = true_or_false t.passes (λ p. rw p (failed_first ts us (rw p at e))) (λ p. rw p (rw p at e))
 
 -- ---- the tests
 

@@ -1,22 +1,17 @@
 -- Laws of what the operations settle: a call that is refused, one that is taken, and an open.
-use mathlib.Core.Path.{◌≡◌, refl, sym, ap, ◌∙◌}
-use mathlib.Core.Bool.{true, false}
-use mathlib.Core.List.{List, []}
-use Prim.Native.Nat.{ℕ, ◌*◌, ◌≤◌}
+use Rattle.std.proofs.Common.{◌≡◌, ap, true, List, [], ℕ, ◌*◌, ◌≤◌, eqb, length, Ok, Err}
 use borrow.Author.Tests.{eqb-true}
-use lib.Dec.{eqb}
-use lib.ListN.{length}
 use Rattle.edit.specs.Edits.{erased, filled}
 use Rattle.words.proofs.Laws.{and_left, and_right}
 use Rattle.edit.proofs.EditLaws.{all_spaces, all_zeros}
 use Rattle.rules.specs.declared.Refusal.{Refusal}
-use Rattle.rules.specs.declared.Refusal.TheVariants.{Taken}
+use Rattle.rules.specs.declared.Edition.{Edition}
 use Rattle.rules.specs.declared.Edition.TheVariants.{September}
 use Rattle.rules.specs.declared.Session.{Session}
 use Rattle.rules.specs.declared.Answer.{Answer}
 use Rattle.rules.specs.Session.{Screen, State, fresh_frame, fresh, screen}
 use Rattle.rules.specs.Edition.{edition_of}
-use Rattle.rules.specs.Refusal.{is_taken, verdict, open_tests}
+use Rattle.rules.specs.Refusal.{Verdict, is_taken, verdict, open_tests}
 use Rattle.rules.specs.Operation.{Outcome, outcome, unless, opened}
 use Rattle.rules.proofs.Refusals.{all_pass}
 use Rattle.admit.specs.Refused.{refused_answer}
@@ -24,30 +19,29 @@ use Rattle.admit.proofs.RefuseLaws.{bounds}
 
 -- ---- refused, or done
 
-module _ {why r : Refusal} (s : State) (reply : List ℕ) (done : Outcome) (e : why ≡ r) where
-  pub settled_refused : {a : Answer} → is_taken why ≡ false → a ≡ refused_answer s.session why
-      → outcome a s.screen reply ≡ unless r s reply done
+module _ (s : State) (reply : List ℕ) (done : Outcome) {v : Verdict} where
+  pub settled_refused : {why : Refusal} {a : Answer} → v ≡ Err why → a ≡ refused_answer s.session why → outcome a s.screen reply ≡ unless v s reply done
   unfolding unless
-  settled_refused f q = rw (← e, f, q)
+  settled_refused e q = rw (e, q)
 
-  pub settled_done : {o : Outcome} → why ≡ Taken → o ≡ done → o ≡ unless r s reply done
+  pub settled_done : {o : Outcome} → v ≡ Ok tt → o ≡ done → o ≡ unless v s reply done
   unfolding unless
-  settled_done t h = rw (sym e ∙ t) h
+  settled_done e h = rw e h
 
 -- ---- open
 
-module _ (m n named : ℕ) (b : Screen) {why : Refusal} (e : verdict (open_tests (fresh_frame m n (edition_of named)) named b) ≡ why) where
-  pub open_refused : {s : Session} {a : Answer} → is_taken why ≡ false → s ≡ fresh 0 0 September → a ≡ refused_answer s why
-      → outcome a b [] ≡ opened m n named b
+module _ (m n named : ℕ) (b : Screen) where
+  pub open_refused : {why : Refusal} {s : Session} {a : Answer} → verdict (open_tests (fresh_frame m n (edition_of named)) named b) ≡ Err why
+      → s ≡ fresh 0 0 September → a ≡ refused_answer s why → outcome a b [] ≡ opened m n named b
   unfolding opened
-  open_refused f p q = settled_refused _ _ _ (sym e) f (rw (← p) q)
+  open_refused e p q = settled_refused _ _ _ e (rw (← p) q)
 
-  module _ (t : why ≡ Taken) where
+  module _ (e : verdict (open_tests (fresh_frame m n (edition_of named)) named b) ≡ Ok tt) where
     -- the sizes and the lengths, as refusals 1 and 2 ask
     pub open_sizes : (m ≤ 132) × (n ≤ 64) × (length b.chars ≡ n * m) × (length b.attrs ≡ n * m) × (length b.marks ≡ n * m)
     unfolding open_tests
     open_sizes =
-        let passed = all_pass (open_tests (fresh_frame m n (edition_of named)) named b) refl (ap is_taken (e ∙ t)) in
+        let passed = all_pass (open_tests (fresh_frame m n (edition_of named)) named b) (ap is_taken e) in
         let sizes = bounds m n passed.0 in
         let c = and_left (eqb (length b.chars) (n * m)) _ passed.1.1.0 in
         let both = and_right (eqb (length b.chars) (n * m)) _ passed.1.1.0 in
@@ -55,14 +49,14 @@ module _ (m n named : ℕ) (b : Screen) {why : Refusal} (e : verdict (open_tests
         let k = and_right (eqb (length b.attrs) (n * m)) (eqb (length b.marks) (n * m)) both in
         (sizes.0, sizes.1, eqb-true _ _ c, eqb-true _ _ a, eqb-true _ _ k)
 
-    pub open_done : {s : Session} {chars attrs marks : List ℕ} → s ≡ fresh m n (edition_of named)
+    pub open_done : {edition : Edition} {s : Session} {chars attrs marks : List ℕ} → edition ≡ edition_of named → s ≡ fresh m n edition
         → chars ≡ erased true b.chars b.attrs 0 (length b.chars) → attrs ≡ filled 0 (length b.attrs) 0 b.attrs
         → marks ≡ filled 0 (length b.marks) 0 b.marks
-        → outcome (record { session = s; refusal = Taken; taken = 0; written = 0 }) (screen chars attrs marks) [] ≡ opened m n named b
+        → outcome (record { session = s; verdict = Ok tt; taken = 0; written = 0 }) (screen chars attrs marks) [] ≡ opened m n named b
     unfolding opened
-    open_done p c q k =
-        settled_done _ _ _ (sym e) t
-        (rw (p, c, q, k, all_spaces b.attrs b.chars, all_zeros b.attrs, all_zeros b.marks, open_sizes.2, open_sizes.3, open_sizes.4))
+    open_done i p c q k =
+        settled_done _ _ _ e
+        (rw (p, i, c, q, k, all_spaces b.attrs b.chars, all_zeros b.attrs, all_zeros b.marks, open_sizes.2, open_sizes.3, open_sizes.4))
 
 -- a call that is refused, and one that is done
 pub ruleset settled = (settled_refused, settled_done)

@@ -1,15 +1,14 @@
 // Refusals meet document 01's numbers here, and nowhere else.
 ghost use Rattle.std.specs.Prelude.{◌≡◌};
-ghost use Rattle.rules.specs.Refusal.{number_of};
+ghost use Rattle.rules.specs.Refusal.{number_of, told_number};
 
-use rules::Refusal;
+use rules::{Refusal, Verdict};
 
-// The table's number; 0 where the call is taken.
+// The table's number.
 pub fn number_of(refusal: Refusal) -> u8
     ensures { result ≡ number_of refusal }
 {
     match refusal {
-        Refusal::Taken => 0,
         Refusal::Size => 1,
         Refusal::BufferLength => 2,
         Refusal::BadCharacter => 3,
@@ -22,5 +21,15 @@ pub fn number_of(refusal: Refusal) -> u8
         Refusal::LineFull => 10,
         Refusal::BadMark => 11,
         Refusal::UnknownEdition => 12,
+    }
+}
+
+// The number that a call returns: 0 where it is taken.
+pub fn told_number(verdict: Verdict) -> u8
+    ensures { result ≡ told_number verdict }
+{
+    match verdict {
+        Ok(()) => 0,
+        Err(why) => number_of(why),
     }
 }

@@ -55,12 +55,12 @@ fn fresh_session(width: u8, height: u8, edition: Edition) -> Session
 }
 
 // The answer of a call that is refused: its number, the session as it came, counts of 0.
-pub fn refused(session: Session, refusal: Refusal) -> Answer
-    ensures { result ≡ refused_answer session refusal }
+pub fn refused(session: Session, why: Refusal) -> Answer
+    ensures { result ≡ refused_answer session why }
 {
     Answer {
         session,
-        refusal,
+        verdict: Err(why),
         taken: 0,
         written: 0,
     }
@@ -68,7 +68,7 @@ pub fn refused(session: Session, refusal: Refusal) -> Answer
 
 // A fresh session of these sizes and the edition that is named, a space in every cell, every attribute byte 0 and no mark. The numbers
 // are wide, so that nothing a caller passes is cut off.
-#[tactic(auto, using(crate::proofs::SettleLaws::open_refused, crate::proofs::SettleLaws::open_sizes, crate::proofs::SettleLaws::open_done))]
+#[tactic(auto, using(crate::proofs::SettleLaws::open_sizes, crate::proofs::SettleLaws::open_done))]
 pub fn open(
     width: usize,
     height: usize,
@@ -90,7 +90,7 @@ pub fn open(
     fill(marks, 0, marks.len(), 0);
     Answer {
         session,
-        refusal: Refusal::Taken,
+        verdict: Ok(()),
         taken: 0,
         written: 0,
     }

@@ -1,6 +1,5 @@
 // What every operation asks of its sizes, session and buffers, in document 01's order.
-ghost use Rattle.std.specs.Prelude.{◌≡◌, false, not, ◌&&◌, ◌||◌, List, ℕ, leb, eqb, length, MatchResult};
-ghost use Rattle.rules.specs.declared.Refusal.TheVariants.{Taken};
+ghost use Rattle.std.specs.Prelude.{◌≡◌, not, ◌&&◌, ◌||◌, List, ℕ, leb, eqb, length, MatchResult};
 ghost use Rattle.rules.specs.Session.{
   sizes_ok,
   cells,
@@ -15,13 +14,13 @@ ghost use Rattle.rules.specs.Session.{
   state,
 };
 ghost use Rattle.rules.specs.Edition.{edition_of};
-ghost use Rattle.rules.specs.Refusal.{is_taken, verdict, open_tests, size_tests, state_tests};
+ghost use Rattle.rules.specs.Refusal.{verdict, open_tests, size_tests, state_tests};
 ghost use Rattle.rules.specs.Operation.{host_refusal};
 ghost use Rattle.command.specs.Frame.{lent};
 
 use crate::edition::named;
 use pad::parameter::all_admissible;
-use rules::{Edition, Frame, Pad, Refusal, Session};
+use rules::{Edition, Frame, Pad, Refusal, Session, Verdict};
 use screen::cell::on_screen;
 
 // M is 1 to 132, N is 1 to 64. The numbers are wide, so that nothing a caller passes is cut off.
@@ -113,8 +112,8 @@ pub(crate) fn refuse_open(
 ) -> Result<Edition, Refusal>
     ensures { let told = verdict (open_tests (fresh_frame m n (edition_of name)) name (lent chars.now attrs.now marks.now)) in
         MatchResult result
-        (λ edition. (told ≡ Taken) × (edition ≡ edition_of name))
-        (λ why. (told ≡ why) × (is_taken why ≡ false)) }
+        (λ edition. (told ≡ Ok tt) × (edition ≡ edition_of name))
+        (λ why. told ≡ Err why) }
 {
     if !sizes_ok(m, n) {
         return Err(Refusal::Size);
@@ -130,48 +129,45 @@ pub(crate) fn refuse_open(
 
 // Refusals 1 and 2, of a session.
 #[tactic(auto, unfolding(rules::specs::Refusal::verdict, rules::specs::Refusal::size_tests))]
-fn refuse_sizes(frame: Frame, chars: &[u8], attrs: &[u8], marks: &[u8]) -> Refusal
+fn refuse_sizes(frame: Frame, chars: &[u8], attrs: &[u8], marks: &[u8]) -> Verdict
     ensures { result ≡ verdict (size_tests frame (lent chars.now attrs.now marks.now)) }
 {
     let m = frame.width as usize;
     let n = frame.height as usize;
     if !sizes_ok(m, n) {
-        return Refusal::Size;
+        return Err(Refusal::Size);
     }
     if !lengths_ok(n * m, chars, attrs, marks) {
-        return Refusal::BufferLength;
+        return Err(Refusal::BufferLength);
     }
-    Refusal::Taken
+    Ok(())
 }
 
 // Refusals 3, 4, 11 and 5.
 #[tactic(auto, unfolding(rules::specs::Refusal::verdict, rules::specs::Refusal::state_tests))]
-fn refuse_state(session: Session, chars: &[u8], marks: &[u8], reply: &[u8]) -> Refusal
+fn refuse_state(session: Session, chars: &[u8], marks: &[u8], reply: &[u8]) -> Verdict
     ensures { (attrs : List ℕ)
         → result ≡ verdict (state_tests session (screen chars.now attrs marks.now) reply.now) }
 {
     if !all_printable(chars) {
-        return Refusal::BadCharacter;
+        return Err(Refusal::BadCharacter);
     }
     if !session_ok(session) {
-        return Refusal::BadSession;
+        return Err(Refusal::BadSession);
     }
     if !all_marks(marks) {
-        return Refusal::BadMark;
+        return Err(Refusal::BadMark);
     }
     if reply.len() < reply_room(session.frame) {
-        return Refusal::ReplyRoom;
+        return Err(Refusal::ReplyRoom);
     }
-    Refusal::Taken
+    Ok(())
 }
 
 // Refusals 1 to 5 and 11, of host bytes and of a key.
-pub fn refuse(session: Session, chars: &[u8], attrs: &[u8], marks: &[u8], reply: &[u8]) -> Refusal
+pub fn refuse(session: Session, chars: &[u8], attrs: &[u8], marks: &[u8], reply: &[u8]) -> Verdict
     ensures { result ≡ host_refusal (state session (lent chars.now attrs.now marks.now)) reply.now }
 {
-    let why = refuse_sizes(session.frame, chars, attrs, marks);
-    let Refusal::Taken = why else {
-        return why;
-    };
+    refuse_sizes(session.frame, chars, attrs, marks)?;
     refuse_state(session, chars, marks, reply)
 }

@@ -1,5 +1,5 @@
 -- Laws of refusals: lists of tests, and the sizes.
-use Rattle.std.proofs.Common.{◌≡◌, refl, true, ◌&&◌, List, [], ◌∷◌, ◌++◌, ℕ, ◌*◌, ◌≤◌, leb, Ok, Err}
+use Rattle.std.proofs.Common.{◌≡◌, refl, true, List, [], ◌∷◌, ◌++◌, ℕ, ◌*◌, ◌≤◌, leb, Ok, Err}
 use borrow.Author.Tests.{leb-true}
 use Rattle.words.specs.Words.{between}
 use Rattle.words.proofs.Laws.{true_or_false, and_left, and_right}

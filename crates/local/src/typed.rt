@@ -11,7 +11,7 @@ ghost use Rattle.typing.specs.Echo.{bytes_of};
 
 use command::frame::moved;
 use pad::line::EditLine;
-use rules::{Frame, Pad, Refusal};
+use rules::{Frame, Pad, Refusal, Verdict};
 use text::data::take_data;
 use typing::echo::{Echo, echo_at, echo_length, echo_of};
 use typing::key::{line_after, overfills};
@@ -26,13 +26,13 @@ pub fn takes_key(frame: Frame, code: u8) -> bool
 
 // Refusal 10.
 #[tactic(auto, unfolding(rules::specs::Refusal::verdict, rules::specs::Pad::line_tests))]
-pub fn refuse_line(pad: Pad, code: u8) -> Refusal
+pub fn refuse_line(pad: Pad, code: u8) -> Verdict
     ensures { result ≡ verdict (line_tests pad code) }
 {
     if overfills(pad.values, pad.line, code) {
-        return Refusal::LineFull;
+        return Err(Refusal::LineFull);
     }
-    Refusal::Taken
+    Ok(())
 }
 
 // An echo, written as host text: the frame after it.

@@ -3,7 +3,7 @@ use crate::desk::Desk;
 use crate::order::Order;
 use crate::sink::Sink;
 use admit::edition::name_of;
-use admit::number::number_of;
+use admit::number::told_number;
 use command::facility::own_maps;
 use rules::{Answer, Frame, Maps, Pad, Reader};
 use std::io;
@@ -18,11 +18,10 @@ fn bytes(out: &mut Sink, buffer: &[u8]) -> io::Result<()> {
 
 // The answer's three numbers, and the reply buffer.
 fn replied(out: &mut Sink, answer: &Answer, reply: &[u8]) -> io::Result<()> {
-    let refusal = answer.refusal;
     write!(
         out,
         "{} {} {}",
-        number_of(refusal),
+        told_number(answer.verdict),
         answer.taken,
         answer.written
     )?;

@@ -1,6 +1,5 @@
 -- Laws of refusals: lists of tests, and the sizes.
-use Rattle.std.proofs.Common.{◌≡◌, refl, true, List, [], ◌∷◌, ◌++◌, ℕ, ◌*◌, ◌≤◌, leb, Ok, Err}
-use borrow.Author.Tests.{leb-true}
+use Rattle.std.proofs.Common.{leb-true, ◌≡◌, refl, true, List, [], ◌∷◌, ◌++◌, ℕ, ◌*◌, ◌≤◌, leb, Ok, Err}
 use Rattle.words.specs.Words.{between}
 use Rattle.words.proofs.Laws.{true_or_false, and_left, and_right}
 use Rattle.screen.proofs.CellLaws.{cells_few}

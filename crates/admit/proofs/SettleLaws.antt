@@ -1,6 +1,5 @@
 -- Laws of what the operations settle: a call that is refused, one that is taken, and an open.
-use Rattle.std.proofs.Common.{◌≡◌, ap, true, List, [], ℕ, ◌*◌, ◌≤◌, eqb, length, Ok, Err}
-use borrow.Author.Tests.{eqb-true}
+use Rattle.std.proofs.Common.{eqb-true, ◌≡◌, ap, true, List, [], ℕ, ◌*◌, ◌≤◌, eqb, length, Ok, Err}
 use Rattle.edit.specs.Edits.{erased, filled}
 use Rattle.words.proofs.Laws.{and_left, and_right}
 use Rattle.edit.proofs.EditLaws.{all_spaces, all_zeros}

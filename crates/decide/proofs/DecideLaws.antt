@@ -1,12 +1,6 @@
 -- Laws of decisions: what meets `Decides`, and which cells are the screen's.
-use Rattle.std.specs.Prelude.{Some, None, if◌then◌else◌}
+use Rattle.std.proofs.Common.{◌≡◌, sym, ◌∙◌, Bool, true, ℕ, ◌-◌, ◌≤◌, ◌<◌, min, arith, length, lt-ltb, eq-eqb, Some, None, if◌then◌else◌}
 use Rattle.std.proofs.lemmas.Option.{none-some}
-use mathlib.Core.Path.{◌≡◌, sym, ◌∙◌}
-use mathlib.Core.Bool.{Bool, true}
-use Prim.Native.Nat.{ℕ, ◌-◌, ◌≤◌, ◌<◌, min}
-use native.Mathlib.Omega.{arith}
-use lib.ListN.{length}
-use borrow.Author.Tests.{lt-ltb, eq-eqb}
 use Rattle.screen.specs.Cells.{cell_of}
 use Rattle.screen.specs.Fields.{first_from, last_before}
 use Rattle.screen.proofs.CellLaws.{cell_lt}

@@ -1,11 +1,7 @@
 -- Laws of the subcommands: what lies on the screen, and which decisions the rules ask for.
-use Rattle.std.specs.Prelude.{Option, Some, None, Result, Err, ⊤}
-use mathlib.Core.Path.{◌≡◌, refl, ap, ◌∙◌}
-use mathlib.Core.List.{[]}
-use Prim.Native.Nat.{ℕ, zero, suc, ◌≤◌, ◌<◌}
-use native.Mathlib.Omega.{arith}
+use Rattle.std.proofs.Common.{◌≡◌, refl, ap, ◌∙◌, [], ℕ, zero, suc, ◌≤◌, ◌<◌, arith, length, Option, Some, None, Result, Err}
+use Rattle.std.specs.Prelude.{⊤}
 use Rattle.std.proofs.Common.{ne_eqb}
-use lib.ListN.{length}
 use Rattle.screen.specs.Cells.{line_end}
 use Rattle.screen.specs.Fields.{field_end}
 use Rattle.words.proofs.Laws.{either}

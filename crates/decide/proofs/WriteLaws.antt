@@ -1,10 +1,5 @@
 -- Laws of writing a character: by its fate.
-use Rattle.std.specs.Prelude.{Ok, if◌then◌else◌}
-use mathlib.Core.Path.{◌≡◌, refl, ◌∙◌}
-use mathlib.Core.Bool.{Bool, true, false}
-use mathlib.Core.List.{[], ◌∷◌}
-use Prim.Native.Nat.{ℕ}
-use borrow.Author.Tests.{lt-ltb, eq-eqb}
+use Rattle.std.proofs.Common.{◌≡◌, refl, ◌∙◌, Bool, true, false, [], ◌∷◌, ℕ, lt-ltb, eq-eqb, Ok, if◌then◌else◌}
 use Rattle.screen.specs.declared.cell.Place.{Place}
 use Rattle.screen.specs.Scans.{next_open_place}
 use Rattle.screen.specs.Classes.{takes}

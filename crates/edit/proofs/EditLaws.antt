@@ -1,17 +1,10 @@
 -- Laws of the edits: what each keeps, and what stands in each cell afterwards.
-use Rattle.std.specs.Prelude.{if◌then◌else◌, ◌⊎◌}
-use Rattle.std.proofs.Common.{inl, inr}
-use mathlib.Core.Path.{◌≡◌, refl, sym, ◌∙◌}
-use mathlib.Core.Bool.{Bool, true, false, not, ◌&&◌}
-use mathlib.Core.List.{List, ◌++◌}
-use Prim.Native.Nat.{ℕ, ◌+◌, ◌-◌, ◌≤◌, ◌<◌, min}
-use native.Mathlib.Omega.{arith}
-use borrow.Author.Tests.{ltb-true, ltb-false, leb-true, eqb-true, eqb-false, lt-ltb, le-ltb, lt-leb, eq-eqb, ne_eqb}
+use Rattle.std.proofs.Common.{◌≡◌, refl, sym, ◌∙◌, Bool, true, false, not, ◌&&◌, List, ◌++◌, ℕ, ◌+◌, ◌-◌, ◌≤◌, ◌<◌, min, arith, ltb-true, ltb-false, leb-true, eqb-true, lt-ltb, le-ltb, eq-eqb, ne_eqb, leb, ltb, eqb, length, get_or, set, take, drop, replicate, length-set, length-drop, length-take-le, get_or-take, get_or-drop, get_or-set_same, get_or-set_other, if◌then◌else◌, ◌⊎◌, inl, inr}
+use borrow.Author.Tests.{eqb-false, lt-leb}
 use borrow.Rule.Slice.PartMut.{put_mid, Post-is}
 use Rattle.std.specs.List.{CopiedTo}
-use lib.Dec.{leb, ltb, eqb}
-use lib.ListN.{length, get_or, set, take, drop, replicate, length-set, length-drop, length-replicate, get_or-replicate, get_or-eq_default}
-use lib.Seq.{paste, length-take-le, get_or-take, get_or-drop, get_or-set_same, get_or-set_other}
+use lib.ListN.{length-replicate, get_or-replicate, get_or-eq_default}
+use lib.Seq.{paste}
 use Rattle.screen.specs.Words.{in_range}
 use Rattle.screen.specs.Attributes.{protection, protected_at, guarded_at}
 use Rattle.edit.specs.declared.range.Shift.{Shift}

@@ -1,14 +1,7 @@
 -- Laws of lists by their elements: one that a loop stores into, and one whose part is replaced.
-use Rattle.std.specs.Prelude.{if◌then◌else◌}
-use mathlib.Core.Path.{◌≡◌, ap, ◌∙◌}
-use mathlib.Core.Bool.{Bool, true, false}
-use mathlib.Core.List.{List, ◌++◌}
-use Prim.Native.Nat.{ℕ, ◌+◌, ◌-◌, ◌≤◌, ◌<◌}
-use native.Mathlib.Omega.{arith}
-use borrow.Author.Tests.{eqb-true, eqb-false, lt-ltb, le-ltb, le-leb, lt-leb}
-use lib.Dec.{eqb, ltb, leb}
-use lib.ListN.{length, get_or, set, take, drop, length-set, length-append, length-drop, get_or-append}
-use lib.Seq.{get_or-set_same, get_or-set_other, get_or-append-add, get_or-take, get_or-drop, length-take-le}
+use Rattle.std.proofs.Common.{◌≡◌, ap, ◌∙◌, Bool, true, false, List, ◌++◌, ℕ, ◌+◌, ◌-◌, ◌≤◌, ◌<◌, arith, eqb-true, lt-ltb, le-ltb, le-leb, eqb, ltb, leb, length, get_or, set, take, drop, length-set, length-append, length-drop, get_or-set_same, get_or-set_other, get_or-append-add, get_or-take, get_or-drop, length-take-le, if◌then◌else◌}
+use borrow.Author.Tests.{eqb-false, lt-leb}
+use lib.ListN.{get_or-append}
 use Rattle.words.specs.Words.{tabulate}
 use Rattle.screen.specs.Words.{in_range}
 use Rattle.words.proofs.Laws.{true_or_false, less_or_not, and_false, get_d-within, tabulated}

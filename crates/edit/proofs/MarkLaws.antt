@@ -1,14 +1,6 @@
 -- Laws of a range with a marked cell, by a scan that has come to a cell of it.
-use mathlib.Core.Path.{◌≡◌, refl, sym, ◌∙◌}
-use mathlib.Core.Bool.{Bool, true, false, ◌||◌}
-use mathlib.Core.List.{List}
-use Prim.Native.Nat.{ℕ, zero, suc, ◌+◌, ◌-◌, ◌≤◌, ◌<◌, min}
-use native.Mathlib.Numerals.{add-one}
-use native.Mathlib.Omega.{arith}
-use lib.Seq.{drop-cons}
-use borrow.Author.Tests.{lt-ltb, le-ltb}
-use lib.ListN.{length, take, drop, get_or-eq_default}
-use lib.Dec.{eqb, ltb}
+use Rattle.std.proofs.Common.{◌≡◌, refl, sym, ◌∙◌, Bool, true, false, ◌||◌, List, ℕ, zero, suc, ◌+◌, ◌-◌, ◌≤◌, ◌<◌, min, add-one, arith, drop-cons, lt-ltb, le-ltb, length, take, drop, eqb, ltb}
+use lib.ListN.{get_or-eq_default}
 use Rattle.std.specs.List.{list_any}
 use Rattle.words.proofs.Laws.{true_or_false, less_or_not}
 use Rattle.screen.proofs.WordLaws.{first_hit, first_skip, first_skips, first_end}

@@ -1,10 +1,5 @@
 -- Document 02, request (vii): the list of form F and what it answers, worked out.
-use Rattle.std.specs.Prelude.{None}
-use mathlib.Core.Path.{◌≡◌, refl}
-use mathlib.Core.Bool.{true, false}
-use mathlib.Core.List.{List, [], ◌∷◌, ◌++◌}
-use Prim.Native.Nat.{ℕ}
-use lib.ListN.{replicate}
+use Rattle.std.proofs.Common.{◌≡◌, refl, true, false, List, [], ◌∷◌, ◌++◌, ℕ, replicate, None}
 use Rattle.screen.specs.Words.{first_of, last_of}
 use Rattle.screen.specs.Attributes.{protected_at}
 use Rattle.screen.specs.Fields.{starts_at, opens_at, field_start, field_end}

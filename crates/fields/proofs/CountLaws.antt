@@ -1,14 +1,6 @@
 -- Laws of the count of the field starts.
-use mathlib.Core.Path.{◌≡◌, refl, sym, ◌∙◌}
+use Rattle.std.proofs.Common.{◌≡◌, refl, sym, ◌∙◌, true, false, not, List, ℕ, zero, suc, ◌+◌, ◌-◌, ◌≤◌, ◌<◌, arith, add-one, eq-eqb, eqb, length, get_or}
 use Rattle.std.specs.Int.{from_bool}
-use mathlib.Core.Bool.{true, false, not}
-use mathlib.Core.List.{List}
-use Prim.Native.Nat.{ℕ, zero, suc, ◌+◌, ◌-◌, ◌≤◌, ◌<◌}
-use native.Mathlib.Omega.{arith}
-use native.Mathlib.Numerals.{add-one}
-use borrow.Author.Tests.{eq-eqb}
-use lib.Dec.{eqb}
-use lib.ListN.{length, get_or}
 use Rattle.words.proofs.Laws.{either, true_or_false, less_or_not, get_d-within}
 use Rattle.screen.specs.Fields.{starts_at, field_end}
 use Rattle.screen.proofs.FieldLaws.{starts_after, rest_equal}

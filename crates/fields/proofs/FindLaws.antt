@@ -1,15 +1,6 @@
 -- The search of a list for a cell, record by record.
-use Rattle.std.specs.Prelude.{None, if◌then◌else◌}
+use Rattle.std.proofs.Common.{◌≡◌, refl, Bool, true, false, not, List, ℕ, ◌+◌, ◌≤◌, ◌<◌, add-one, ne_eqb, arith, length, get_or, drop, drop_of_length-le, drop-cons, None, if◌then◌else◌}
 use Rattle.std.specs.Int.{from_bool}
-use mathlib.Core.Path.{◌≡◌, refl}
-use mathlib.Core.Bool.{Bool, true, false, not}
-use mathlib.Core.List.{List}
-use Prim.Native.Nat.{ℕ, ◌+◌, ◌≤◌, ◌<◌}
-use native.Mathlib.Numerals.{add-one}
-use borrow.Author.Tests.{ne_eqb}
-use native.Mathlib.Omega.{arith}
-use lib.ListN.{length, get_or, drop, drop_of_length-le}
-use lib.Seq.{drop-cons}
 use Rattle.screen.specs.Attributes.{protected_at}
 use Rattle.screen.specs.FieldList.{unused, has_cell, counted, found, found_from}
 use Rattle.screen.specs.declared.record.FieldRecord.{FieldRecord}

@@ -1,16 +1,8 @@
 -- Laws of unused records, and of the list written anew.
-use mathlib.Core.Path.{◌≡◌, refl, ap, ◌∙◌}
-use mathlib.Core.Bool.{Bool, true, ◌&&◌}
-use mathlib.Core.List.{List, ◌∷◌, ◌++◌, append_assoc, append-nil}
-use Prim.Native.Nat.{ℕ, zero, suc, ◌+◌, ◌-◌, ◌≤◌, ◌<◌, min}
-use native.Mathlib.Omega.{arith}
-use native.Mathlib.Numerals.{add-one}
-use borrow.Author.Tests.{lt-ltb, le-ltb, ne_eqb, eqb-true, eqb-false}
+use Rattle.std.proofs.Common.{◌≡◌, refl, ap, ◌∙◌, Bool, true, ◌&&◌, List, ◌∷◌, ◌++◌, append_assoc, append-nil, ℕ, zero, suc, ◌+◌, ◌-◌, ◌≤◌, ◌<◌, min, arith, add-one, lt-ltb, le-ltb, ne_eqb, eqb-true, bit_or, eqb, ltb, length, length-drop, replicate, get_or, set, take, drop, drop_of_length-le, length-set, drop-cons, take_all, take-suc-set}
+use borrow.Author.Tests.{eqb-false}
 use borrow.Rule.Slice.PartMut.{put_mid, Post-is}
-use lib.Bits.{bit_or, or_zero_l, or_add_and, and_le_r}
-use lib.Dec.{eqb, ltb}
-use lib.ListN.{length, length-drop, replicate, get_or, set, take, drop, drop_of_length-le, length-set}
-use lib.Seq.{drop-cons, take_all, take-suc-set}
+use lib.Bits.{or_zero_l, or_add_and, and_le_r}
 use Rattle.std.proofs.Math.Bool.{and_assoc}
 use Rattle.std.proofs.lemmas.List.{drop_min, length-take}
 use Rattle.words.proofs.Laws.{true_or_false, and_true}

@@ -1,14 +1,6 @@
 -- Laws of the scan of a list: record by record, and what it comes to.
-use mathlib.Core.Path.{◌≡◌, refl, sym, ◌∙◌}
-use mathlib.Core.Bool.{Bool, true, false, not, ◌&&◌}
-use mathlib.Core.List.{List, [], ◌∷◌}
-use Prim.Native.Nat.{ℕ, suc, ◌+◌, ◌-◌, ◌≤◌, ◌<◌}
-use native.Mathlib.Omega.{arith}
-use native.Mathlib.Numerals.{add-one}
-use borrow.Author.Tests.{lt-ltb, le-ltb, ltb-true, eq-eqb, ne_eqb, eqb-true, eqb-false, not-true}
-use lib.Dec.{eqb, ltb}
-use lib.ListN.{length, get_or, take, drop, drop_of_length-le, length-drop}
-use lib.Seq.{drop-cons, take_all}
+use Rattle.std.proofs.Common.{◌≡◌, refl, sym, ◌∙◌, Bool, true, false, not, ◌&&◌, List, [], ◌∷◌, ℕ, suc, ◌+◌, ◌-◌, ◌≤◌, ◌<◌, arith, add-one, lt-ltb, le-ltb, ltb-true, eq-eqb, ne_eqb, eqb-true, eqb, ltb, length, get_or, take, drop, drop_of_length-le, length-drop, drop-cons, take_all}
+use borrow.Author.Tests.{eqb-false, not-true}
 use Rattle.words.proofs.Laws.{true_or_false, less_or_not, not_both, both, and_left, and_right, and_false}
 use Rattle.screen.specs.Fields.{starts_at, field_end}
 use Rattle.screen.specs.FieldList.{unused, same_record, agrees_from, agrees}

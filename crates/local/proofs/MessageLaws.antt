@@ -1,6 +1,5 @@
 -- What is not answered: every event but an end.
-use mathlib.Core.List.{List, [], ◌∷◌}
-use Prim.Native.Nat.{ℕ}
+use Rattle.std.proofs.Common.{List, [], ◌∷◌, ℕ}
 use types.Run.{OneOf, miss}
 use denote.Enum.Declared.{tag_of}
 use Rattle.telnet.specs.contracts.Event.{the_type}

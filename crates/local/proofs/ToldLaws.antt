@@ -1,7 +1,5 @@
 -- The end of a subnegotiation of another option leaves nothing of a message half read, and the PAD otherwise as it was.
-use mathlib.Core.Path.{◌≡◌, refl}
-use mathlib.Core.Bool.{true, false}
-use mathlib.Core.List.{[], ◌∷◌}
+use Rattle.std.proofs.Common.{◌≡◌, refl, true, false, [], ◌∷◌}
 use borrow.Author.Tests.{not-true}
 use types.Run.{OneOf, miss}
 use denote.Enum.Declared.{tag_of}

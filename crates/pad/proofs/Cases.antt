@@ -1,11 +1,6 @@
 -- Titled cases: what is found and what is to be found, and that all of them pass.
-use mathlib.Core.Path.{◌≡◌, refl, ap₂}
-use mathlib.Core.Bool.{Bool, true, false, ◌&&◌}
-use mathlib.Core.List.{List, [], ◌∷◌, map}
-use Prim.Native.Nat.{ℕ}
+use Rattle.std.proofs.Common.{◌≡◌, refl, ap₂, Bool, true, false, ◌&&◌, List, [], ◌∷◌, map, ℕ, eqb-true, eqb}
 use Prim.Native.String.{String}
-use borrow.Author.Tests.{eqb-true}
-use lib.Dec.{eqb}
 use Rattle.words.specs.Words.{ByTest}
 use Rattle.words.proofs.Laws.{true_or_false, not_both, and_left, and_right}
 

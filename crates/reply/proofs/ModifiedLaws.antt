@@ -1,12 +1,6 @@
 -- Laws of the fields with a marked cell, written one after the other.
-use mathlib.Core.Path.{◌≡◌, ◌∙◌}
-use mathlib.Core.Bool.{true, false}
-use mathlib.Core.List.{List, [], ◌++◌}
-use Prim.Native.Nat.{ℕ, zero, suc, ◌+◌, ◌-◌, ◌≤◌, ◌<◌}
-use native.Mathlib.Nat.{add-zero, sub-zero}
-use native.Mathlib.Numerals.{add-one}
-use native.Mathlib.Omega.{arith}
-use lib.ListN.{length}
+use Rattle.std.proofs.Common.{◌≡◌, ◌∙◌, true, false, List, [], ◌++◌, ℕ, zero, suc, ◌+◌, ◌-◌, ◌≤◌, ◌<◌, add-zero, add-one, arith, length}
+use native.Mathlib.Nat.{sub-zero}
 use Rattle.screen.specs.Fields.{opens_at, first_from, field_end}
 use Rattle.screen.proofs.WordLaws.{first_passes, first_past, first_above, first_below}
 use Rattle.screen.proofs.FieldLaws.{end_gt, end_le, none_opens}

@@ -1,15 +1,7 @@
 -- Laws of pieces written one after the other: none of them asks that the pieces fit.
-use mathlib.Core.Path.{◌≡◌, refl, sym, ap, ◌∙◌}
-use mathlib.Core.Bool.{Bool, true, false}
-use mathlib.Core.List.{List, [], ◌∷◌, ◌++◌, append_assoc, append-nil}
-use Prim.Native.Nat.{ℕ, zero, suc, ◌+◌, ◌-◌, ◌≤◌, ◌<◌}
-use native.Mathlib.Nat.{add-zero, sub-zero}
-use native.Mathlib.Numerals.{add-one}
-use native.Mathlib.Omega.{arith}
-use borrow.Author.Tests.{le-leb, leb-true}
-use lib.Dec.{leb}
-use lib.ListN.{length, drop, get_or, drop_of_length-le}
-use lib.Seq.{sets, sets-eq, length-sets, take_all, drop-cons}
+use Rattle.std.proofs.Common.{◌≡◌, refl, sym, ap, ◌∙◌, Bool, true, false, List, [], ◌∷◌, ◌++◌, append_assoc, append-nil, ℕ, zero, suc, ◌+◌, ◌-◌, ◌≤◌, ◌<◌, add-zero, add-one, arith, le-leb, leb-true, leb, length, drop, get_or, drop_of_length-le, take_all, drop-cons}
+use native.Mathlib.Nat.{sub-zero}
+use lib.Seq.{sets, sets-eq, length-sets}
 use Rattle.screen.specs.Fields.{opens_at, first_from, field_end}
 use Rattle.edit.specs.Edits.{lies, can_copy, text_of, Copied}
 use Rattle.words.proofs.Laws.{either, true_or_false}

@@ -1,12 +1,6 @@
 -- Laws of cells and places: cell x,y of a screen m cells wide and n lines high stands at y * m + x.
-use mathlib.Core.Path.{◌≡◌, ◌∙◌}
-use mathlib.Core.Bool.{true}
-use Prim.Native.Nat.{ℕ, zero, suc, ◌+◌, ◌*◌, ◌/◌, ◌%◌, ◌≤◌, ◌<◌}
-use native.Mathlib.Nat.{add-zero, mul-zero, suc-mul, mul-le-mul, mul-le-mul_right, mul-add-div_right, mul-add-mod_self_right, mod-lt, mod-eq_of_lt, div-eq_of_lt, div-add-mod', div-lt_iff_lt-mul}
-use native.Mathlib.Numerals.{add-one}
-use native.Mathlib.Omega.{arith}
-use borrow.Author.Tests.{lt-ltb, ltb-true}
-use lib.Dec.{ltb}
+use Rattle.std.proofs.Common.{◌≡◌, ◌∙◌, true, ℕ, zero, suc, ◌+◌, ◌*◌, ◌/◌, ◌%◌, ◌≤◌, ◌<◌, add-zero, mul-zero, suc-mul, mul-le-mul, mul-le-mul_right, mod-lt, mod-eq_of_lt, div-add-mod', div-lt_iff_lt-mul, add-one, arith, lt-ltb, ltb-true, ltb}
+use native.Mathlib.Nat.{mul-add-div_right, mul-add-mod_self_right, div-eq_of_lt}
 use Rattle.screen.specs.Cells.{place, cell_of, place_of, on_screen, place_or_origin}
 use Rattle.screen.specs.declared.cell.Place.{Place}
 use Rattle.words.proofs.Laws.{and_left, and_right}

@@ -1,12 +1,8 @@
 -- Laws of fields and edit spans.
-use mathlib.Core.Path.{◌≡◌, refl, sym, ◌∙◌}
-use mathlib.Core.Bool.{Bool, true, false, not, and-false}
-use mathlib.Core.List.{List}
-use Prim.Native.Nat.{ℕ, zero, suc, ◌+◌, ◌-◌, ◌≤◌, ◌<◌, min}
-use native.Mathlib.Omega.{arith}
-use borrow.Author.Tests.{eqb-true, eq-eqb, ne_eqb, lt-ltb, le-ltb, not-true, not-false}
-use lib.Dec.{eqb}
-use lib.ListN.{length, get_or-eq_default}
+use Rattle.std.proofs.Common.{◌≡◌, refl, sym, ◌∙◌, Bool, true, false, not, List, ℕ, zero, suc, ◌+◌, ◌-◌, ◌≤◌, ◌<◌, min, arith, eqb-true, eq-eqb, ne_eqb, lt-ltb, le-ltb, eqb, length}
+use mathlib.Core.Bool.{and-false}
+use borrow.Author.Tests.{not-true, not-false}
+use lib.ListN.{get_or-eq_default}
 use Rattle.screen.specs.Words.{first_of, some_in}
 use Rattle.screen.specs.Attributes.{attribute_at, protected_at, guarded_at}
 use Rattle.screen.specs.Fields.{Run, Field, starts_at, opens_at, first_from, field_start, field_end, span_end}

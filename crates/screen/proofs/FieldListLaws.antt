@@ -1,13 +1,6 @@
 -- Laws of the list of field records, and of the question that it answers.
-use mathlib.Core.Path.{◌≡◌, refl, sym, ap, ◌∙◌}
-use mathlib.Core.Bool.{true, false}
-use mathlib.Core.List.{List, [], ◌∷◌}
-use Prim.Native.Nat.{ℕ, zero, suc, ◌+◌, ◌-◌, ◌≤◌, ◌<◌, min}
-use native.Mathlib.Omega.{arith}
-use native.Mathlib.Numerals.{add-one}
-use borrow.Author.Tests.{lt-ltb, le-ltb, eq-eqb, ne_eqb, eqb-true}
-use lib.Dec.{eqb}
-use lib.ListN.{length, get_or-eq_default}
+use Rattle.std.proofs.Common.{◌≡◌, refl, sym, ap, ◌∙◌, true, false, List, [], ◌∷◌, ℕ, zero, suc, ◌+◌, ◌-◌, ◌≤◌, ◌<◌, min, arith, add-one, lt-ltb, le-ltb, eq-eqb, ne_eqb, eqb-true, eqb, length}
+use lib.ListN.{get_or-eq_default}
 use Rattle.words.proofs.Laws.{true_or_false, less_or_not, not_both}
 use Rattle.screen.specs.Attributes.{protected_at}
 use Rattle.screen.specs.Fields.{starts_at, opens_at, field_start, field_end}

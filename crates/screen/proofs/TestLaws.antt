@@ -1,6 +1,5 @@
 -- A test that a function answers: what is known where it is passed, and where it is not.
-use mathlib.Core.Path.{◌≡◌, sym, ◌∙◌}
-use mathlib.Core.Bool.{Bool, true, false, not}
+use Rattle.std.proofs.Common.{◌≡◌, sym, ◌∙◌, Bool, true, false, not}
 use borrow.Author.Tests.{not-true, not-false}
 
 module _ {found test : Bool} (e : found ≡ test) where

@@ -1,15 +1,7 @@
 -- Laws of the bytes before the first IAC: of a list's first bytes, and of what comes after them.
-use Rattle.std.specs.Prelude.{if◌then◌else◌}
+use Rattle.std.proofs.Common.{ℕ, zero, suc, ◌+◌, ◌≤◌, ◌<◌, add-one, arith, ◌≡◌, refl, ap, Bool, true, false, not, cond, ◌&&◌, List, [], ◌∷◌, eqb, length, take, drop, get_or, eqb-true, if◌then◌else◌}
 use Rattle.std.specs.List.{prefix_len}
-use Prim.Native.Nat.{ℕ, zero, suc, ◌+◌, ◌≤◌, ◌<◌}
-use native.Mathlib.Numerals.{add-one}
-use native.Mathlib.Omega.{arith}
-use mathlib.Core.Path.{◌≡◌, refl, ap}
-use mathlib.Core.Bool.{Bool, true, false, not, cond, ◌&&◌}
-use mathlib.Core.List.{List, [], ◌∷◌}
-use lib.Dec.{eqb}
-use lib.ListN.{length, take, drop, get_or}
-use borrow.Author.Tests.{not-true, eqb-true, eqb-false}
+use borrow.Author.Tests.{not-true, eqb-false}
 use Rattle.telnet.specs.Reader.{iac}
 use Rattle.telnet.specs.Stream.{before_iac}
 use Rattle.telnet.proofs.Laws.{No255}

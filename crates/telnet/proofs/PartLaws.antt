@@ -1,10 +1,5 @@
 -- Laws of parts of a list: from one place up to another.
-use Prim.Native.Nat.{ℕ, ◌+◌, ◌-◌, ◌≤◌, ◌<◌}
-use native.Mathlib.Omega.{arith}
-use mathlib.Core.Path.{◌≡◌, sym, ap, ◌∙◌}
-use mathlib.Core.List.{List, [], ◌∷◌, ◌++◌}
-use lib.ListN.{length, get_or, drop, take-append-drop}
-use lib.Seq.{take-add, drop-cons, drop-drop}
+use Rattle.std.proofs.Common.{ℕ, ◌+◌, ◌-◌, ◌≤◌, ◌<◌, arith, ◌≡◌, sym, ap, ◌∙◌, List, [], ◌∷◌, ◌++◌, length, get_or, drop, take-append-drop, take-add, drop-cons, drop-drop}
 use Rattle.telnet.specs.Stream.{part}
 
 module _ (from : ℕ) (xs : List ℕ) where

@@ -1,14 +1,5 @@
 -- Laws of data in which an LF is passed over: one byte more, and whether a CR came last.
-use Rattle.std.specs.Prelude.{if◌then◌else◌}
-use mathlib.Core.Path.{◌≡◌, refl, sym, ap, ◌∙◌}
-use mathlib.Core.Bool.{Bool, true, false, ◌&&◌}
-use mathlib.Core.List.{List, [], ◌∷◌, ◌++◌}
-use Prim.Native.Nat.{ℕ, suc, ◌-◌, ◌<◌}
-use native.Mathlib.Omega.{arith}
-use borrow.Author.Tests.{ne_eqb}
-use lib.Dec.{eqb}
-use lib.ListN.{length, get_or, take}
-use lib.Seq.{take-suc, take_all}
+use Rattle.std.proofs.Common.{◌≡◌, refl, sym, ap, ◌∙◌, Bool, true, false, ◌&&◌, List, [], ◌∷◌, ◌++◌, ℕ, suc, ◌-◌, ◌<◌, arith, ne_eqb, eqb, length, get_or, take, take-suc, take_all, if◌then◌else◌}
 use Rattle.words.proofs.Laws.{true_or_false, not_both}
 use Rattle.rules.specs.Session.{printable}
 use Rattle.text.specs.Text.{joined, obeyed_bytes, ends_in_cr}

@@ -1,14 +1,7 @@
 -- Laws of characters in a row: what one copy does, or the last of them, is what they do one after the other.
-use mathlib.Core.Path.{◌≡◌, refl, sym, ap, ◌∙◌}
-use mathlib.Core.Bool.{Bool, true, false}
-use mathlib.Core.List.{List}
-use Prim.Native.Nat.{ℕ, zero, suc, ◌+◌, ◌-◌, ◌≤◌, ◌<◌}
-use native.Mathlib.Nat.{not-suc-le-zero}
-use native.Mathlib.Omega.{arith}
-use borrow.Author.Tests.{not-true, le-leb, lt-ltb, le-ltb}
-use lib.Dec.{leb, eqb}
-use lib.ListN.{length, get_or, set, drop, length-drop}
-use lib.Seq.{paste, paste-zero, paste-suc, get_or-drop, set-set}
+use Rattle.std.proofs.Common.{◌≡◌, refl, sym, ap, ◌∙◌, Bool, true, false, List, ℕ, zero, suc, ◌+◌, ◌-◌, ◌≤◌, ◌<◌, not-suc-le-zero, arith, le-leb, lt-ltb, le-ltb, leb, eqb, length, get_or, set, drop, length-drop, get_or-drop, set-set}
+use borrow.Author.Tests.{not-true}
+use lib.Seq.{paste, paste-zero, paste-suc}
 use Rattle.screen.specs.Attributes.{protection, protected_at, guarded_at}
 use Rattle.screen.specs.declared.cell.Place.{Place}
 use Rattle.screen.specs.Cells.{place, cell_of}

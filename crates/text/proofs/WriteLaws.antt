@@ -1,9 +1,5 @@
 -- Laws of writing a character: what its fate does to the characters.
-use mathlib.Core.Path.{◌≡◌, refl, ◌∙◌}
-use mathlib.Core.Bool.{false}
-use mathlib.Core.List.{List, [], ◌∷◌}
-use Prim.Native.Nat.{ℕ}
-use lib.ListN.{set}
+use Rattle.std.proofs.Common.{◌≡◌, refl, ◌∙◌, false, List, [], ◌∷◌, ℕ, set}
 use Rattle.rules.specs.declared.Frame.{Frame}
 use Rattle.rules.specs.Session.{View, printable, placed, view, cursor_cell, with_cursor}
 use Rattle.rules.specs.Effect.{put, changed, changed_all, changing, quiet}

@@ -1,13 +1,8 @@
 -- Typing in bytes, computed from the definitions: one list of titled cases, each with what is found and what is to be found.
-use Rattle.std.specs.Prelude.{if◌then◌else◌}
-use mathlib.Core.Path.{◌≡◌}
-use mathlib.Core.Bool.{false}
-use mathlib.Core.List.{List, [], ◌∷◌, ◌++◌, map}
-use Prim.Native.Nat.{ℕ}
+use Rattle.std.proofs.Common.{◌≡◌, false, List, [], ◌∷◌, ◌++◌, map, ℕ, replicate, if◌then◌else◌}
 use Prim.Native.Char.{code}
 use Prim.Native.String.{String}
 use Prim.Native.String as string
-use lib.ListN.{replicate}
 use Rattle.words.specs.Words.{bit}
 use Rattle.pad.specs.declared.parameter.Values.{Values}
 use Rattle.pad.specs.Parameters.{start_values, with_pair, parameters}

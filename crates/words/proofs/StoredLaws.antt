@@ -1,10 +1,5 @@
 -- Laws of bytes stored one after the other.
-use mathlib.Core.Path.{◌≡◌, refl, ap, ◌∙◌}
-use mathlib.Core.List.{List, [], ◌∷◌, ◌++◌}
-use Prim.Native.Nat.{ℕ, suc, ◌+◌}
-use native.Mathlib.Nat.{add-zero, zero-add, add-suc, suc-add}
-use native.Mathlib.Omega.{arith}
-use lib.ListN.{length, drop, length-append}
+use Rattle.std.proofs.Common.{◌≡◌, refl, ap, ◌∙◌, List, [], ◌∷◌, ◌++◌, ℕ, suc, ◌+◌, add-zero, zero-add, add-suc, suc-add, arith, length, drop, length-append}
 use lib.Seq.{sets, sets-eq, length-sets}
 use Rattle.words.specs.Stored.{Room, Emitted}
 

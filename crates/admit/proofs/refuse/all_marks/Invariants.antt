@@ -1,7 +1,4 @@
-use mathlib.Core.Path.{◌≡◌}
-use mathlib.Core.Bool.{◌&&◌}
-use lib.Dec.{leb}
-use lib.ListN.{drop}
+use Rattle.std.proofs.Common.{◌≡◌, ◌&&◌, leb, drop}
 use Rattle.rules.specs.Session.{all_marks}
 use Rattle.admit.proofs.refuse.all_marks.Given as goal
 

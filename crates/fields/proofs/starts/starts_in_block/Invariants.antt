@@ -1,5 +1,4 @@
-use mathlib.Core.Path.{◌≡◌}
-use Prim.Native.Nat.{◌+◌, ◌≤◌}
+use Rattle.std.proofs.Common.{◌≡◌, ◌+◌, ◌≤◌}
 use Rattle.fields.specs.Inner.Starts.{starts_before}
 use Rattle.fields.proofs.starts.starts_in_block.Given as goal
 

@@ -1,6 +1,4 @@
-use mathlib.Core.Path.{◌≡◌}
-use mathlib.Core.Bool.{false}
-use lib.ListN.{length}
+use Rattle.std.proofs.Common.{◌≡◌, false, length}
 use Rattle.pad.specs.Line.{text_of}
 use Rattle.typing.specs.Echo.{bytes_of}
 use Rattle.rules.specs.Session.{placed}

@@ -1,6 +1,4 @@
-use mathlib.Core.Path.{◌≡◌}
-use Prim.Native.Nat.{◌-◌, ◌≤◌}
-use lib.ListN.{length}
+use Rattle.std.proofs.Common.{◌≡◌, ◌-◌, ◌≤◌, length}
 use Rattle.rules.specs.Session.{placed}
 use Rattle.text.specs.Inner.Text.{TextStep}
 use Rattle.text.proofs.data.put_text.Given as goal

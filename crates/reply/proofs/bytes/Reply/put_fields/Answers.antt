@@ -1,4 +1,4 @@
-use native.Mathlib.Omega.{arith}
+use Rattle.std.proofs.Common.{arith}
 use Rattle.reply.proofs.WriteLaws.{fields_start, fields_all, to_next, to_more}
 use Rattle.reply.proofs.SingleLaws.{to_after}
 use Rattle.reply.proofs.bytes.Reply.put_fields.Goals as goal

@@ -1,5 +1,4 @@
-use Prim.Native.Nat.{◌-◌}
-use lib.ListN.{length}
+use Rattle.std.proofs.Common.{◌-◌, length}
 use Rattle.reply.proofs.WriteLaws.{WritingTo}
 use Rattle.reply.proofs.bytes.Reply.put_fields.Given as goal
 

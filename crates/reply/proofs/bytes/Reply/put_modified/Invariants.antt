@@ -1,5 +1,4 @@
-use Prim.Native.Nat.{◌-◌}
-use lib.ListN.{length}
+use Rattle.std.proofs.Common.{◌-◌, length}
 use Rattle.rules.specs.Number.{data_transmit}
 use Rattle.rules.specs.Edition.{code_for}
 use Rattle.reply.proofs.ModifiedLaws.{Modifying}

@@ -1,4 +1,4 @@
-use native.Mathlib.Omega.{arith}
+use Rattle.std.proofs.Common.{arith}
 use Rattle.pad.specs.Response.{response_of}
 use Rattle.reply.proofs.WriteLaws.{writing_all, doubled_end}
 use Rattle.reply.proofs.bytes.Reply.put_parameters.Goals as goal

@@ -1,4 +1,4 @@
-use lib.ListN.{drop}
+use Rattle.std.proofs.Common.{drop}
 use Rattle.pad.specs.Response.{response_of}
 use Rattle.reply.specs.Pieces.{doubled_pieces}
 use Rattle.reply.proofs.WriteLaws.{Writing}

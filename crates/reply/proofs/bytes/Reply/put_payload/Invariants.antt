@@ -1,4 +1,4 @@
-use lib.ListN.{drop}
+use Rattle.std.proofs.Common.{drop}
 use Rattle.reply.specs.Pieces.{doubled_pieces}
 use Rattle.reply.proofs.WriteLaws.{Writing}
 use Rattle.reply.proofs.bytes.Reply.put_payload.Given as goal

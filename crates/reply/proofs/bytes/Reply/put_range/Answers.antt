@@ -1,4 +1,4 @@
-use mathlib.Core.Path.{refl}
+use Rattle.std.proofs.Common.{refl}
 use Rattle.reply.proofs.WriteLaws.{copied_piece}
 use Rattle.reply.proofs.bytes.Reply.put_range.Goals as goal
 

@@ -1,9 +1,4 @@
-use mathlib.Core.Path.{◌≡◌}
-use mathlib.Core.Bool.{false}
-use mathlib.Core.List.{[], ◌∷◌}
-use Prim.Native.Nat.{◌+◌, ◌≤◌}
-use native.Mathlib.Omega.{arith}
-use lib.ListN.{length}
+use Rattle.std.proofs.Common.{◌≡◌, false, [], ◌∷◌, ◌+◌, ◌≤◌, arith, length}
 use Rattle.telnet.specs.Reader.{iac, sb, se}
 use Rattle.rules.specs.Number.{det_option}
 use Rattle.reply.specs.declared.bytes.Reply.{Reply}

@@ -1,4 +1,4 @@
-use native.Mathlib.Omega.{arith}
+use Rattle.std.proofs.Common.{arith}
 use Rattle.reply.proofs.SingleLaws.{ones_length, ones_all}
 use Rattle.reply.proofs.bytes.Reply.put_singles.Goals as goal
 

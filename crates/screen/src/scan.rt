@@ -8,7 +8,7 @@ use crate::attribute::is_guarded;
 use crate::block::{behind, past};
 use crate::start::{opens_at, starts_at};
 
-// What a scan looks for. An enum and no closure: it also tells which cells a block is passed over by (`passed` in block.rt).
+// What a scan looks for. An enum and no closure: it also tells which cells a block is passed over by (`is_passed` in block.rt).
 #[derive(Clone, Copy, Debug, PartialEq, Eq)]
 pub enum Target {
     FieldStart,

@@ -1,5 +1,5 @@
 -- Laws of what the operations settle: a call that is refused, one that is taken, and an open.
-use Rattle.std.proofs.Common.{eqb-true, ◌≡◌, ap, true, List, [], ℕ, ◌*◌, ◌≤◌, eqb, length, Ok, Err}
+use Rattle.std.proofs.Common.{eqb-true, ◌≡◌, sym, ap, true, List, [], ℕ, ◌*◌, ◌≤◌, eqb, length, Ok, Err}
 use Rattle.edit.specs.Edits.{erased, filled}
 use Rattle.words.proofs.Laws.{and_left, and_right}
 use Rattle.edit.proofs.EditLaws.{all_spaces, all_zeros}
@@ -19,9 +19,9 @@ use Rattle.admit.proofs.RefuseLaws.{bounds}
 -- ---- refused, or done
 
 module _ (s : State) (reply : List ℕ) (done : Outcome) {v : Verdict} where
-  pub settled_refused : {why : Refusal} {a : Answer} → v ≡ Err why → a ≡ refused_answer s.session why → outcome a s.screen reply ≡ unless v s reply done
+  pub settled_refused : {why : Refusal} {a : Answer} → Err why ≡ v → a ≡ refused_answer s.session why → outcome a s.screen reply ≡ unless v s reply done
   unfolding unless
-  settled_refused e q = rw (e, q)
+  settled_refused e q = rw (← e, q)
 
   pub settled_done : {o : Outcome} → v ≡ Ok tt → o ≡ done → o ≡ unless v s reply done
   unfolding unless
@@ -33,7 +33,7 @@ module _ (m n named : ℕ) (b : Screen) where
   pub open_refused : {why : Refusal} {s : Session} {a : Answer} → verdict (open_tests (fresh_frame m n (edition_of named)) named b) ≡ Err why
       → s ≡ fresh 0 0 September → a ≡ refused_answer s why → outcome a b [] ≡ opened m n named b
   unfolding opened
-  open_refused e p q = settled_refused _ _ _ e (rw (← p) q)
+  open_refused e p q = settled_refused _ _ _ (sym e) (rw (← p) q)
 
   module _ (e : verdict (open_tests (fresh_frame m n (edition_of named)) named b) ≡ Ok tt) where
     -- the sizes and the lengths, as refusals 1 and 2 ask
@@ -56,6 +56,3 @@ module _ (m n named : ℕ) (b : Screen) where
     open_done i p c q k =
         settled_done _ _ _ e
         (rw (p, i, c, q, k, all_spaces b.attrs b.chars, all_zeros b.attrs, all_zeros b.marks, open_sizes.2, open_sizes.3, open_sizes.4))
-
--- a call that is refused, and one that is done
-pub ruleset settled = (settled_refused, settled_done)

@@ -1,4 +1,5 @@
 -- Laws of taking host bytes: none, one, a stretch, and some after others.
+use Rattle.std.specs.Prelude.{Ok}
 use mathlib.Core.Path.{◌≡◌, refl, sym, ap, ◌∙◌}
 use mathlib.Core.Bool.{Bool, true, false}
 use mathlib.Core.List.{List, [], ◌∷◌, append-nil}
@@ -20,7 +21,6 @@ use Rattle.pad.specs.Host.{prints_lf}
 use Rattle.rules.specs.declared.Frame.{Frame}
 use Rattle.rules.specs.declared.Reader.{Reader}
 use Rattle.rules.specs.declared.Pad.{Pad}
-use Rattle.rules.specs.declared.Refusal.TheVariants.{Taken}
 use Rattle.rules.specs.Session.{Screen, State, reply_room, session, state, view}
 use Rattle.rules.specs.Effect.{Effect}
 use Rattle.rules.specs.Telnet.{held_after, cr_after}
@@ -252,7 +252,7 @@ module _ {s₀ s : State} {input reply₀ reply : List ℕ} {taken written : ℕ
 
   -- where no more is taken, all is done
   pub taking_done : taken_of s (length reply₀ - written) (drop taken input) ≡ 0
-      → outcome (record { session = s.session; refusal = Taken; taken = taken; written = written }) s.screen reply
+      → outcome (record { session = s.session; verdict = Ok tt; taken = taken; written = written }) s.screen reply
       ≡ host_taken s₀ reply₀ input
   taking_done e =
       let all : taken_of s₀ (length reply₀) input ≡ taken = simp (sub-zero, e, add-zero) at t.count in

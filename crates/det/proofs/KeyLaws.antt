@@ -1,5 +1,5 @@
 -- Laws of one key: its refusals, and what the decision on it does.
-use Rattle.std.specs.Prelude.{if◌then◌else◌}
+use Rattle.std.specs.Prelude.{if◌then◌else◌, Ok, Err}
 use mathlib.Core.Path.{◌≡◌, refl, sym, ap, ◌∙◌}
 use mathlib.Core.Bool.{Bool, true, false}
 use mathlib.Core.List.{List, append-nil}
@@ -8,13 +8,12 @@ use native.Mathlib.Nat.{zero-add}
 use native.Mathlib.Omega.{arith}
 use lib.ListN.{length}
 use Rattle.rules.specs.declared.Refusal.{Refusal}
-use Rattle.rules.specs.declared.Refusal.TheVariants.{Taken}
 use Rattle.rules.specs.declared.Key.{Key}
 use Rattle.rules.specs.declared.Key.TheVariants.{Typed, Back, Tab, Send, Delete, Function, Meaningless}
 use Rattle.rules.specs.declared.Frame.{Frame}
 use Rattle.rules.specs.declared.Pad.{Pad}
 use Rattle.rules.specs.Session.{State, View, session, screen, view, view_of}
-use Rattle.rules.specs.Refusal.{is_taken, verdict, size_tests, state_tests}
+use Rattle.rules.specs.Refusal.{Verdict, is_taken, verdict, size_tests, state_tests}
 use Rattle.rules.specs.Effect.{Effect, changed_all, cleared, marks_after, spelled, spelled_all}
 use Rattle.rules.specs.Cursor.{cursor_guarded}
 use Rattle.rules.specs.Telnet.{host_text}
@@ -46,22 +45,22 @@ use Rattle.det.proofs.TakeLaws.{accepts_fits, sayable}
 use Rattle.det.proofs.ApplyLaws.{marking_of_lem}
 
 -- the refusal of a key: of every call, or else its own
-module _ (s : State) (reply : List ℕ) (code : ℕ) {why : Refusal} (e : why ≡ host_refusal s reply) where
-  pub refused_first : is_taken why ≡ false → why ≡ key_refusal s reply code
+module _ (s : State) (reply : List ℕ) (code : ℕ) where
+  pub refused_first : {why : Refusal} → Err why ≡ host_refusal s reply → Err why ≡ key_refusal s reply code
   unfolding size_tests
-  refused_first h = e ∙ sym (failed_first _ _ (rw e at h))
+  refused_first e = sym (failed_first _ _ (sym e))
 
-  pub refused_last : {r : Refusal} → why ≡ Taken → r ≡ verdict (press_tests s code) → r ≡ key_refusal s reply code
+  pub refused_last : {v r : Verdict} → v ≡ host_refusal s reply → v ≡ Ok tt → r ≡ verdict (press_tests s code) → r ≡ key_refusal s reply code
   unfolding size_tests state_tests
-  refused_last t h = rw (passed_on _ _ refl (sym e ∙ t)) h
+  refused_last e t h = rw (passed_on _ _ (sym e ∙ t)) h
 
 -- its own refusals: the edit line's, or those of its meaning
 module _ (s : State) (code : ℕ) where
-  pub line_refusal : {takes : Bool} {r : Refusal} → takes ≡ takes_key s.session.frame code → takes ≡ true → r ≡ verdict (line_tests s.session.pad code)
+  pub line_refusal : {takes : Bool} {r : Verdict} → takes ≡ takes_key s.session.frame code → takes ≡ true → r ≡ verdict (line_tests s.session.pad code)
       → r ≡ verdict (press_tests s code)
   line_refusal e t h = rw (sym e ∙ t) h
 
-  pub meaning_refusal : {takes : Bool} {k : Key} {r : Refusal} → takes ≡ takes_key s.session.frame code → takes ≡ false → k ≡ key_of code
+  pub meaning_refusal : {takes : Bool} {k : Key} {r : Verdict} → takes ≡ takes_key s.session.frame code → takes ≡ false → k ≡ key_of code
       → r ≡ verdict (key_tests (view_of s) k) → r ≡ verdict (press_tests s code)
   meaning_refusal e t q h = rw (sym e ∙ t) (h ∙ rw q)
 
@@ -76,7 +75,7 @@ keeps_attributes v Delete = either (λ (e : Effect). v.attrs ≡ e.view.attrs) (
 keeps_attributes v (Function n) = refl
 keeps_attributes v Meaningless = refl
 
-module _ (s : State) (reply : List ℕ) (code : ℕ) (p : key_refusal s reply code ≡ Taken) where
+module _ (s : State) (reply : List ℕ) (code : ℕ) (p : key_refusal s reply code ≡ Ok tt) where
   found : Accepted s reply
   found = sound_of s (key code reply) (ap is_taken p)
 
@@ -87,12 +86,12 @@ module _ (s : State) (reply : List ℕ) (code : ℕ) (p : key_refusal s reply co
   module _ (off : takes_key s.session.frame code ≡ false)
       {k : Key} (q : k ≡ key_of code) {d : Decision} (decided : Decides (view_of s) d (where_fits (λ v. pressed_if_taken v k))) where
     -- the key passes its own tests
-    permits_key : verdict (key_tests (view_of s) k) ≡ Taken
+    permits_key : verdict (key_tests (view_of s) k) ≡ Ok tt
     unfolding size_tests state_tests
-    permits_key = rw q (rw off at (sym (passed_on _ _ refl permits_accepts) ∙ p))
+    permits_key = rw q (rw off at (sym (passed_on _ _ permits_accepts) ∙ p))
 
     t : Decides (view_of s) d (λ v. pressed v k)
-    t = pressed_was k refl permits_key (fits_rule _ (accepts_fits s reply 0 permits_accepts) decided)
+    t = pressed_was k (sym permits_key) (fits_rule _ (accepts_fits s reply 0 permits_accepts) decided)
 
     does : press_effect s code ≡ pressed (view_of s) (key_of code)
     does = rw off
@@ -118,7 +117,7 @@ module _ (s : State) (reply : List ℕ) (code : ℕ) (p : key_refusal s reply co
         Wrote reply 0 (say_pieces d.frame.edition b.chars b.attrs b.marks d.say) reply' written
         → Changes (edited (view d.frame b.attrs) d.edit) b.chars b.attrs f chars
         → marks ≡ marks_after b.marks (if d.clear then cleared else marking_of d.edit)
-        → outcome (record { session = session f s.session.reader s.session.pad; refusal = Taken; taken = 1; written = written })
+        → outcome (record { session = session f s.session.reader s.session.pad; verdict = Ok tt; taken = 1; written = written })
         (screen chars s.screen.attrs marks) reply'
         ≡ key_taken s reply code
     key_settled m c k =
@@ -129,7 +128,7 @@ module _ (s : State) (reply : List ℕ) (code : ℕ) (p : key_refusal s reply co
         let written = emitted.next ∙ zero-add _ in
         let reply = emitted_whole (rw parts at key_sayable.room) emitted in
         rw off (λ i. outcome
-        (record { session = session (frame i) s.session.reader s.session.pad; refusal = Taken; taken = 1; written = written i })
+        (record { session = session (frame i) s.session.reader s.session.pad; verdict = Ok tt; taken = 1; written = written i })
         (screen (chars i) (keeps_attributes (view_of s) (key_of code) i) (marks i)) (reply i))
 
   module _ (on : takes_key s.session.frame code ≡ true) where
@@ -145,7 +144,7 @@ module _ (s : State) (reply : List ℕ) (code : ℕ) (p : key_refusal s reply co
         → Emitted reply 0 (sent_at s.session.pad code) reply' written
         → Changes (host_text (view_of s) (echoed_at s.session.pad code)) s.screen.chars s.screen.attrs f chars
         → pad ≡ pad_typed s.session.pad code
-        → outcome (record { session = session f s.session.reader pad; refusal = Taken; taken = 1; written = written })
+        → outcome (record { session = session f s.session.reader pad; verdict = Ok tt; taken = 1; written = written })
         (screen chars s.screen.attrs s.screen.marks) reply'
         ≡ key_taken s reply code
     unfolding typed_to spelled_all spelled marks_after
@@ -153,6 +152,6 @@ module _ (s : State) (reply : List ℕ) (code : ℕ) (p : key_refusal s reply co
         let whole = emitted_whole (omega (arith, line_room)) e in
         let written = e.next ∙ zero-add _ in
         rw (on, append-nil) (λ i. outcome
-        (record { session = session (c.frame i) s.session.reader (q i); refusal = Taken; taken = 1; written = written i })
+        (record { session = session (c.frame i) s.session.reader (q i); verdict = Ok tt; taken = 1; written = written i })
         (screen (c.characters i) (sym (text_keeps (view_of s) (echoed_at s.session.pad code)) i)
         (marks_after s.screen.marks (sym (text_marks (view_of s) (echoed_at s.session.pad code)) i))) (whole i))

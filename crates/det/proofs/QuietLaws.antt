@@ -12,6 +12,7 @@ use Rattle.telnet.specs.declared.Phase.{Phase}
 use Rattle.telnet.specs.declared.Phase.TheVariants.{Rest, Iac, Negotiating, Opening, OpeningIac, Inside, InsideIac}
 use Rattle.telnet.specs.declared.Event.TheVariants.{Nothing, End}
 use Rattle.telnet.specs.declared.stretch.Stretch.{Stretch}
+use Rattle.telnet.specs.declared.ahead.WholeSub.{WholeSub}
 use Rattle.telnet.specs.declared.Step.{Step}
 use Rattle.telnet.specs.Reader.{iac, sb, se, after_iac, opening, inside, inside_iac, read_of, reader}
 use Rattle.telnet.specs.Stream.{data_end, part, stretch_of}
@@ -218,46 +219,47 @@ run_none h = record { onward = omega arith; within = h; ran = rw part_none }
 
 -- ---- what is told next
 
--- up to the IAC after its bytes, a whole subnegotiation is held
-opening_ran : {input : List ℕ} {from o start end next : ℕ} → Whole input from o start end next → is_x3 o ≡ false
-    → (f : Frame) (held : Held) (cr : Bool) (p : Pad) (b : Screen)
-    → running (standing f Iac held cr p b) (part from (end + 1) input)
-    ≡ still (standing f (InsideIac o) (holding_all none_held (part start end input)) cr (with_message p idle_message) b)
-unfolding running read_of inside
-opening_ran {input} {o = o} {start} {end} w x f held cr p b =
-    let xs = part start end input in
-    let q = with_message p idle_message in
-    rw (
-      w.opening,
-      iac_sb f held cr p b,
-      opening_option f held cr p b w.option x,
-      running_append (standing f (Inside o) none_held cr q b) xs (255 ∷ []),
-      held_ran xs w.plain f o x none_held cr q b,
-      inside_iac_lem f (holding_all none_held xs) cr q b o,
-    )
+module _ {input : List ℕ} {from : ℕ} {w : WholeSub} (h : Whole input from w) (x : is_x3 w.option ≡ false) where
+  -- up to the IAC after its bytes, a whole subnegotiation is held
+  opening_ran : (f : Frame) (held : Held) (cr : Bool) (p : Pad) (b : Screen)
+      → running (standing f Iac held cr p b) (part from (w.end + 1) input)
+      ≡ still (standing f (InsideIac w.option) (holding_all none_held (part w.start w.end input)) cr (with_message p idle_message) b)
+  unfolding running read_of inside
+  opening_ran f held cr p b =
+      let o = w.option in
+      let xs = part w.start w.end input in
+      let q = with_message p idle_message in
+      rw (
+        h.opening,
+        iac_sb f held cr p b,
+        opening_option f held cr p b h.option x,
+        running_append (standing f (Inside o) none_held cr q b) xs (255 ∷ []),
+        held_ran xs h.plain f o x none_held cr q b,
+        inside_iac_lem f (holding_all none_held xs) cr q b o,
+      )
 
 -- its end
-pub told_whole : {r : Reader} {input : List ℕ} {from o start end next : ℕ} {held held' : Held} → (r.phase ≡ Iac) × Whole input from o start end next
-    → is_x3 o ≡ false → held ≡ holding_all none_held (part start end input) → held' ≡ none_held
-    → Tells r input from (record { event = End o; held = held; reader = record { phase = Rest; held = held'; cr = r.cr }; next = next })
+pub told_whole : {r : Reader} {input : List ℕ} {from : ℕ} {w : WholeSub} {held held' : Held} → (r.phase ≡ Iac) × Whole input from w
+    → is_x3 w.option ≡ false → held ≡ holding_all none_held (part w.start w.end input) → held' ≡ none_held
+    → Tells r input from (record { event = End w.option; held = held; reader = record { phase = Rest; held = held'; cr = r.cr }; next = w.next })
 unfolding held_after cr_after pad_after read_of inside_iac
-told_whole {r} {o = o} {start} {end} (ph, w) x h n = record {
-  last = end + 1;
-  phase = InsideIac o;
+told_whole {r} {w = w} (ph, h) x e n = record {
+  last = w.end + 1;
+  phase = InsideIac w.option;
   before = λ p. with_message p idle_message;
   quiet = λ f p b. record {
-    onward = omega (arith, w.after, w.forth);
-    within = omega (arith, w.on, w.within);
-    ran = rw (ph, h) (opening_ran w x f r.held r.cr p b);
+    onward = omega (arith, h.after, h.forth);
+    within = omega (arith, h.on, h.within);
+    ran = rw (ph, e) (opening_ran h x f r.held r.cr p b);
   };
   values = λ p. refl;
   pad = λ f p. rw x;
-  lies = omega (arith, w.on, w.within);
-  next = omega (arith, w.on);
-  step = rw w.ends;
+  lies = omega (arith, h.on, h.within);
+  next = omega (arith, h.on);
+  step = rw h.ends;
   held = n;
   cr = refl;
-  unasked = λ option q. let same : o ≡ option = cc in rw (← same) x;
+  unasked = λ option q. let same : w.option ≡ option = cc in rw (← same) x;
 }
 
 -- outside a message of option 30 no byte ends one

@@ -18,8 +18,6 @@ use Rattle.rules.specs.declared.Edition.{Edition}
 use Rattle.rules.specs.declared.Frame.{Frame}
 use Rattle.rules.specs.declared.Reader.{Reader}
 use Rattle.rules.specs.declared.Pad.{Pad}
-use Rattle.rules.specs.declared.Refusal.{Refusal}
-use Rattle.rules.specs.declared.Refusal.TheVariants.{Taken}
 use Rattle.rules.specs.Session.{Screen, State, View, line_takes_keys, reply_room, session, screen, state, view, view_of}
 use Rattle.rules.specs.Refusal.{is_taken}
 use Rattle.rules.specs.Effect.{Effect, changed_all, marks_after, spelled_all, changing, quiet}
@@ -145,10 +143,6 @@ data_applies f lf cr byte {b = b} k =
     }
 
 -- ---- a byte that is taken
-
--- what a call that is not refused finds
-pub accepts_start : (s : State) (reply : List ℕ) {why : Refusal} → why ≡ host_refusal s reply → why ≡ Taken → Accepts s reply 0
-accepts_start s reply e t = sym e ∙ t
 
 module _ (s : State) (reply : List ℕ) (at : ℕ) (a : Accepts s reply at) where
   -- and what it knows

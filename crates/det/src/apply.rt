@@ -12,7 +12,7 @@ ghost use Rattle.text.specs.Text.{Changes};
 ghost use Rattle.det.specs.Inner.Apply.{Applies};
 
 use command::frame::moved;
-use decide::decision::{Decision, Edit, Format, Say};
+use decide::decision::{Decision, Edit, Fill, Say};
 use edit::range::{erase, fill, shift_range};
 use reply::write_reply;
 use rules::{Edition, Frame};
@@ -71,12 +71,11 @@ pub(crate) fn change_chars(frame: Frame, edit: Edit, chars: &mut [u8], attrs: &[
     repeat(frame, count, byte, chars, attrs)
 }
 
-fn format_attrs(change: Format, attrs: &mut [u8])
-    ensures { attrs.new ≡ attrs_of change attrs.old }
+fn format_attrs(format: Option<Fill>, attrs: &mut [u8])
+    ensures { attrs.new ≡ attrs_of format attrs.old }
 {
-    match change {
-        Format::Keep => {}
-        Format::Fill { from, end, attr } => fill(attrs, from, end, attr),
+    if let Some(Fill { from, end, attr }) = format {
+        fill(attrs, from, end, attr);
     }
 }
 

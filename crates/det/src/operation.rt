@@ -19,7 +19,7 @@ use local::typed::{echo_key, refuse_line, send_line, takes_key, type_key};
 use pad::host::prints_lf;
 use pad::message::idle;
 use reply::write_reply;
-use rules::{Answer, Refusal, Session};
+use rules::{Answer, Session, Verdict};
 
 // Host bytes that are not refused: taken from the front while there are any and the reply buffer has room for one more reply.
 fn take_all(
@@ -38,16 +38,16 @@ fn take_all(
     let mut frame = session.frame;
     let mut reader = session.reader;
     let mut pad = session.pad;
-    let mut taken = 0;
+    let mut from = 0;
     let mut written = 0;
     let mut lf = prints_lf(session.pad.values);
-    while taken < input.len() {
+    while from < input.len() {
         if reply.len() - written < room {
             break;
         }
         if in_message(reader.phase) {
-            let one = take_byte(frame, reader, pad, input[taken], reply, written);
-            taken += 1;
+            let one = take_byte(frame, reader, pad, input[from], reply, written);
+            from += 1;
             reader = one.reader;
             pad = one.pad;
             lf = prints_lf(pad.values);
@@ -56,14 +56,14 @@ fn take_all(
         }
         let start = Start {
             input,
-            from: taken,
+            from,
             frame,
             reader,
             lf,
             at: written,
         };
         let turn = take_turn(start, chars, attrs, marks, reply);
-        taken = turn.end;
+        from = turn.end;
         written = turn.written;
         reader = turn.reader;
         if ends_other(turn.event) {
@@ -76,15 +76,15 @@ fn take_all(
     }
     Answer {
         session: Session { frame, reader, pad },
-        refusal: Refusal::Taken,
-        taken: taken,
+        verdict: Ok(()),
+        taken: from,
         written,
     }
 }
 
 // The refusals of the key itself: 10 where the edit line takes it, else 9, 8, 6 and 7.
 #[tactic(auto, using(crate::proofs::KeyLaws::line_refusal, crate::proofs::KeyLaws::meaning_refusal))]
-fn refuse_press(session: Session, code: u8, attrs: &[u8]) -> Refusal
+fn refuse_press(session: Session, code: u8, attrs: &[u8]) -> Verdict
     ensures { (chars marks : List ℕ)
         → result ≡ verdict (press_tests (state session (screen chars attrs.now marks)) code) }
 {
@@ -103,13 +103,10 @@ fn refuse_key(
     attrs: &[u8],
     marks: &[u8],
     reply: &[u8],
-) -> Refusal
+) -> Verdict
     ensures { result ≡ key_refusal (state session (lent chars.now attrs.now marks.now)) reply.now code }
 {
-    let why = refuse(session, chars, attrs, marks, reply);
-    let Refusal::Taken = why else {
-        return why;
-    };
+    refuse(session, chars, attrs, marks, reply)?;
     refuse_press(session, code, attrs)
 }
 
@@ -122,7 +119,7 @@ fn take_meaning(
     marks: &mut [u8],
     reply: &mut [u8],
 ) -> Answer
-    requires not_refused { key_refusal (state session (lent chars.old attrs.now marks.old)) reply.old code ≡ Refusal.Taken }
+    requires not_refused { key_refusal (state session (lent chars.old attrs.now marks.old)) reply.old code ≡ Ok tt }
     requires line_leaves { takes_key session.frame code ≡ false }
     ensures { outcome result (lent chars.new attrs.now marks.new) reply.new
         ≡ key_taken (state session (lent chars.old attrs.now marks.old)) reply.old code }
@@ -134,7 +131,7 @@ fn take_meaning(
     mark(decision.clear, decision.edit, marks);
     Answer {
         session: Session { frame, ..session },
-        refusal: Refusal::Taken,
+        verdict: Ok(()),
         taken: 1,
         written,
     }
@@ -149,7 +146,7 @@ fn take_line(
     marks: &[u8],
     reply: &mut [u8],
 ) -> Answer
-    requires not_refused { key_refusal (state session (lent chars.old attrs.now marks.now)) reply.old code ≡ Refusal.Taken }
+    requires not_refused { key_refusal (state session (lent chars.old attrs.now marks.now)) reply.old code ≡ Ok tt }
     requires line_takes { takes_key session.frame code ≡ true }
     ensures { outcome result (lent chars.new attrs.now marks.now) reply.new
         ≡ key_taken (state session (lent chars.old attrs.now marks.now)) reply.old code }
@@ -163,34 +160,14 @@ fn take_line(
             pad: type_key(pad, code),
             ..session
         },
-        refusal: Refusal::Taken,
+        verdict: Ok(()),
         taken: 1,
         written,
     }
 }
 
-// A key that is not refused.
-fn take_key(
-    session: Session,
-    code: u8,
-    chars: &mut [u8],
-    attrs: &[u8],
-    marks: &mut [u8],
-    reply: &mut [u8],
-) -> Answer
-    requires { key_refusal (state session (lent chars.old attrs.now marks.old)) reply.old code ≡ Refusal.Taken }
-    ensures { outcome result (lent chars.new attrs.now marks.new) reply.new
-        ≡ key_taken (state session (lent chars.old attrs.now marks.old)) reply.old code }
-{
-    if takes_key(session.frame, code) {
-        take_line(session, code, chars, attrs, marks, reply)
-    } else {
-        take_meaning(session, code, chars, attrs, marks, reply)
-    }
-}
-
 // Bytes from the host. The answer counts those taken from the input's front, and the reply bytes.
-#[tactic(auto, using(admit::proofs::SettleLaws::settled), unfolding(rules::specs::Operation::host_bytes))]
+#[tactic(auto, using(admit::proofs::SettleLaws::settled_done), unfolding(rules::specs::Operation::host_bytes))]
 pub fn host_bytes(
     session: Session,
     input: &[u8],
@@ -202,15 +179,14 @@ pub fn host_bytes(
     ensures { outcome result (lent chars.new attrs.new marks.new) reply.new
         ≡ host_bytes (state session (lent chars.old attrs.old marks.old)) reply.old input.now }
 {
-    let why = refuse(session, chars, attrs, marks, reply);
-    let Refusal::Taken = why else {
+    if let Err(why) = refuse(session, chars, attrs, marks, reply) {
         return refused(session, why);
-    };
+    }
     take_all(session, input, chars, attrs, marks, reply)
 }
 
 // One key of the operator.
-#[tactic(auto, using(admit::proofs::SettleLaws::settled), unfolding(rules::specs::Operation::one_key))]
+#[tactic(auto, using(admit::proofs::SettleLaws::settled_done), unfolding(rules::specs::Operation::one_key))]
 pub fn key(
     session: Session,
     code: u8,
@@ -222,9 +198,12 @@ pub fn key(
     ensures { outcome result (lent chars.new attrs.now marks.new) reply.new
         ≡ one_key (state session (lent chars.old attrs.now marks.old)) reply.old code }
 {
-    let why = refuse_key(session, code, chars, attrs, marks, reply);
-    let Refusal::Taken = why else {
+    if let Err(why) = refuse_key(session, code, chars, attrs, marks, reply) {
         return refused(session, why);
-    };
-    take_key(session, code, chars, attrs, marks, reply)
+    }
+    if takes_key(session.frame, code) {
+        take_line(session, code, chars, attrs, marks, reply)
+    } else {
+        take_meaning(session, code, chars, attrs, marks, reply)
+    }
 }

@@ -14,12 +14,12 @@ use crate::data::{obey_data, take_bytes};
 use crate::start::Start;
 use command::held::{held_of, hold_all, none};
 use command::number::X3;
-use decide::decision::{Decision, Edit, Format, Say};
+use decide::decision::{Decision, Edit, Say};
 use decide::negotiate::negotiate;
 use decide::obey::decide_end;
 use local::message::read_byte;
 use rules::{Frame, Held, Reader};
-use telnet::ahead::{Ahead, look_ahead};
+use telnet::ahead::look_ahead;
 use telnet::stretch::{data_at, payload_at};
 use telnet::{Event, Phase};
 
@@ -56,7 +56,7 @@ fn decide_event(frame: Frame, attrs: &[u8], held: Held, event: Event) -> Decisio
             frame,
             edit: Edit::Nothing,
             say: Say::Silent,
-            format: Format::Keep,
+            format: None,
             clear: false,
         },
     }
@@ -111,20 +111,15 @@ fn told_at(here: Start) -> Told
     let input = here.input;
     let reader = here.reader;
     match look_ahead(reader.phase, input, here.from) {
-        Ahead::WholeSub {
-            option,
-            start,
-            end,
-            next,
-        } if option != X3 => Told {
-            event: Event::End(option),
-            held: held_of(&input[start..end]),
+        Some(sub) if sub.option != X3 => Told {
+            event: Event::End(sub.option),
+            held: held_of(&input[sub.start..sub.end]),
             reader: Reader {
                 phase: Phase::Rest,
                 held: none(),
                 cr: reader.cr,
             },
-            next,
+            next: sub.next,
         },
         _ => told_byte(reader, input[here.from], here.from + 1),
     }

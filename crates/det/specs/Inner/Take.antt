@@ -1,5 +1,5 @@
 -- Host bytes, and one key: what is asked for them to be taken, what some bytes do, and what a call comes to.
-use Rattle.std.specs.Prelude.{◌≡◌, Bool, false, List, [], ℕ, ◌+◌, ◌-◌, ◌≤◌, ◌<◌, length, get_or, drop, if◌then◌else◌}
+use Rattle.std.specs.Prelude.{◌≡◌, Bool, false, List, [], ℕ, ◌+◌, ◌-◌, ◌≤◌, ◌<◌, length, get_or, drop, if◌then◌else◌, Ok}
 use Rattle.telnet.specs.declared.Phase.{Phase}
 use Rattle.telnet.specs.declared.Event.TheVariants.{Nothing, End}
 use Rattle.telnet.specs.Reader.{tells, read_of}
@@ -11,7 +11,6 @@ use Rattle.pad.specs.Host.{prints_lf}
 use Rattle.rules.specs.declared.Frame.{Frame}
 use Rattle.rules.specs.declared.Reader.{Reader}
 use Rattle.rules.specs.declared.Pad.{Pad}
-use Rattle.rules.specs.declared.Refusal.TheVariants.{Taken}
 use Rattle.rules.specs.Session.{Screen, State, pad_with, session, state, view}
 use Rattle.rules.specs.Effect.{Effect}
 use Rattle.rules.specs.Telnet.{held_after, cr_after}
@@ -28,7 +27,7 @@ use Rattle.det.specs.Inner.Data.{det_effect}
 
 -- host bytes would be taken with what is left of the reply buffer from `at` on
 abbrev pub Accepts : State → List ℕ → ℕ → Type 0
-Accepts s reply at = host_refusal s (drop at reply) ≡ Taken
+Accepts s reply at = host_refusal s (drop at reply) ≡ Ok tt
 
 -- A fresh PAD whose parameter 13 has CR LF printed as such, or not. What a turn asks does not depend on the PAD otherwise, so it is asked
 -- with this one.

@@ -9,16 +9,16 @@ use Rattle.det.proofs.MessageLaws.{message_taking}
 use Rattle.det.proofs.operation.take_all.Goals as goal
 use Rattle.det.proofs.operation.take_all.Goals.{then-ends_other, else-ends_other}
 
-pub loop-taken-init : goal.loop-taken-init
-loop-taken-init c = (taking_none (omega arith) (omega arith), refl, refl, refl, refl, c.prints_lf-lf.ensures)
+pub loop-from-init : goal.loop-from-init
+loop-from-init c = (taking_none (omega arith) (omega arith), refl, refl, refl, refl, c.prints_lf-lf.ensures)
 
 -- a byte in a half-read message
-pub loop-taken-preserved-then-in_message : goal.loop-taken-preserved-then-in_message
-loop-taken-preserved-then-in_message c =
-    let i = c.loop-taken.invariant in
+pub loop-from-preserved-then-in_message : goal.loop-from-preserved-then-in_message
+loop-from-preserved-then-in_message c =
+    let i = c.loop-from.invariant in
     let a = taking_accepts i.0 c.requires (omega (arith, c.reply_room-room.ensures, c.if-reply-written.false)) in (
       taking_then i.0
-          (message_taking _ _ _ _ _ _ a (sym c.in_message.ensures ∙ c.if-in_message.true) c.loop-taken-test.true
+          (message_taking _ _ _ _ _ _ a (sym c.in_message.ensures ∙ c.if-in_message.true) c.loop-from-test.true
           c.take_byte-one.ensures),
       i.1,
       i.2,
@@ -29,19 +29,19 @@ loop-taken-preserved-then-in_message c =
 
 pub take_turn-turn-requires : goal.take_turn-turn-requires
 take_turn-turn-requires c =
-    let i = c.loop-taken.invariant in
-    accepts_turn _ _ _ c.loop-taken.lf _ c.loop-taken.reply c.loop-taken.written
+    let i = c.loop-from.invariant in
+    accepts_turn _ _ _ c.loop-from.lf _ c.loop-from.reply c.loop-from.written
     (taking_accepts i.0 c.requires (omega (arith, c.reply_room-room.ensures, c.if-reply-written.false)))
 
 -- a stretch, and what is told after it
-pub loop-taken-preserved : goal.loop-taken-preserved
-loop-taken-preserved c =
-    let i = c.loop-taken.invariant in
+pub loop-from-preserved : goal.loop-from-preserved
+loop-from-preserved c =
+    let i = c.loop-from.invariant in
     let a = taking_accepts i.0 c.requires (omega (arith, c.reply_room-room.ensures, c.if-reply-written.false)) in
-    let told : c.if-ends_other.pad ≡ pad_after c.loop-taken.frame c.loop-taken.pad c.take_turn-turn.result.event =
+    let told : c.if-ends_other.pad ≡ pad_after c.loop-from.frame c.loop-from.pad c.take_turn-turn.result.event =
     elim c.if-ends_other.branch [
       | then-ends_other w ↦
-          w.pad-is ∙ ap (with_message c.loop-taken.pad) w.idle-pad.ensures
+          w.pad-is ∙ ap (with_message c.loop-from.pad) w.idle-pad.ensures
           ∙ sym (other_clears _ _ _ (sym c.ends_other.ensures ∙ w.if-ends_other.true))
       | else-ends_other w ↦ w.pad-is ∙ w.pad_told-pad.ensures
     ] in
@@ -58,10 +58,10 @@ loop-taken-preserved c =
       prints,
     )
 
-pub returns-after-loop-taken : goal.returns-after-loop-taken
-returns-after-loop-taken c = taking_done c.loop-taken.invariant.0 (taken_end _ _ _ _ c.loop-taken-test.false)
+pub returns-after-loop-from : goal.returns-after-loop-from
+returns-after-loop-from c = taking_done c.loop-from.invariant.0 (taken_end _ _ _ _ c.loop-from-test.false)
 
 pub returns-then-reply-written : goal.returns-then-reply-written
 returns-then-reply-written c =
-    let same = taking_room c.loop-taken.invariant.0 c.requires in
-    taking_done c.loop-taken.invariant.0 (taken_full _ _ _ (omega (arith, same, c.reply_room-room.ensures, c.if-reply-written.true)))
+    let same = taking_room c.loop-from.invariant.0 c.requires in
+    taking_done c.loop-from.invariant.0 (taken_full _ _ _ (omega (arith, same, c.reply_room-room.ensures, c.if-reply-written.true)))

@@ -5,15 +5,15 @@ use Rattle.det.specs.Inner.Take.{Taking}
 use Rattle.det.proofs.operation.take_all.Given as goal
 
 -- the bytes taken did what the rules say
-abbrev pub invariant-loop-taken : goal.invariant-loop-taken
-invariant-loop-taken l =
+abbrev pub invariant-loop-from : goal.invariant-loop-from
+invariant-loop-from l =
     Taking (state (session l.initial.frame l.initial.reader l.initial.pad) (screen l.fn.chars l.fn.attrs l.fn.marks)) l.input 0
-    l.fn.reply 0 (state (session l.frame l.reader l.pad) (screen l.chars l.attrs l.marks)) l.taken l.reply l.written
+    l.fn.reply 0 (state (session l.frame l.reader l.pad) (screen l.chars l.attrs l.marks)) l.from l.reply l.written
     × (length l.chars ≡ length l.fn.chars)
     × (length l.attrs ≡ length l.fn.attrs)
     × (length l.marks ≡ length l.fn.marks)
     × (length l.reply ≡ length l.fn.reply)
     × (l.lf ≡ prints_lf l.pad.values)
 
-abbrev pub decreases-loop-taken : goal.decreases-loop-taken
-decreases-loop-taken l = length l.input - l.taken
+abbrev pub decreases-loop-from : goal.decreases-loop-from
+decreases-loop-from l = length l.input - l.from

@@ -1,9 +1,5 @@
 -- Laws of changes: REPEAT is done one character at a time, and every other edit at once.
-use mathlib.Core.Path.{◌≡◌, refl, sym}
-use mathlib.Core.Logic.{⊎_elim}
-use mathlib.Core.List.{List, [], ◌∷◌, ◌++◌}
-use Prim.Native.Nat.{ℕ, zero, suc, ◌≤◌}
-use native.Mathlib.Omega.{arith}
+use Rattle.std.proofs.Common.{◌≡◌, refl, sym, ⊎_elim, List, [], ◌∷◌, ◌++◌, ℕ, zero, suc, ◌≤◌, arith}
 use types.Run.{OneOf, miss}
 use denote.Enum.Declared.{tag_of}
 use Rattle.words.proofs.Laws.{either}

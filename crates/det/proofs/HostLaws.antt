@@ -1,13 +1,6 @@
 -- Laws of taking host bytes: none, one, a stretch, and some after others.
-use Rattle.std.specs.Prelude.{Ok}
-use mathlib.Core.Path.{◌≡◌, refl, sym, ap, ◌∙◌}
-use mathlib.Core.Bool.{Bool, true, false}
-use mathlib.Core.List.{List, [], ◌∷◌, append-nil}
-use Prim.Native.Nat.{ℕ, ◌+◌, ◌-◌, ◌≤◌, ◌<◌}
-use native.Mathlib.Nat.{zero-add, sub-zero, add-zero}
-use native.Mathlib.Omega.{arith}
-use lib.ListN.{length, get_or, take, drop, length-drop}
-use lib.Seq.{length-take-le}
+use Rattle.std.proofs.Common.{◌≡◌, refl, sym, ap, ◌∙◌, Bool, true, false, List, [], ◌∷◌, append-nil, ℕ, ◌+◌, ◌-◌, ◌≤◌, ◌<◌, zero-add, add-zero, arith, length, get_or, take, drop, length-drop, length-take-le, Ok}
+use native.Mathlib.Nat.{sub-zero}
 use Rattle.telnet.specs.Stream.{part}
 use Rattle.telnet.proofs.PartLaws.{part_none, part_one, part_then, part_rest}
 use Rattle.telnet.specs.declared.Event.{Event}

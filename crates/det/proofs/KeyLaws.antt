@@ -1,12 +1,5 @@
 -- Laws of one key: its refusals, and what the decision on it does.
-use Rattle.std.specs.Prelude.{if◌then◌else◌, Ok, Err}
-use mathlib.Core.Path.{◌≡◌, refl, sym, ap, ◌∙◌}
-use mathlib.Core.Bool.{Bool, true, false}
-use mathlib.Core.List.{List, append-nil}
-use Prim.Native.Nat.{ℕ, ◌≤◌}
-use native.Mathlib.Nat.{zero-add}
-use native.Mathlib.Omega.{arith}
-use lib.ListN.{length}
+use Rattle.std.proofs.Common.{◌≡◌, refl, sym, ap, ◌∙◌, Bool, true, false, List, append-nil, ℕ, ◌≤◌, zero-add, arith, length, if◌then◌else◌, Ok, Err}
 use Rattle.rules.specs.declared.Refusal.{Refusal}
 use Rattle.rules.specs.declared.Key.{Key}
 use Rattle.rules.specs.declared.Key.TheVariants.{Typed, Back, Tab, Send, Delete, Function, Meaningless}

@@ -1,12 +1,5 @@
 -- Laws of a byte of a message of option 30: it is read and told, and a SEND that ends is answered.
-use Rattle.std.specs.Prelude.{if◌then◌else◌}
-use mathlib.Core.Path.{◌≡◌, refl}
-use mathlib.Core.Bool.{Bool, true, false, ◌&&◌}
-use mathlib.Core.List.{List, [], ◌∷◌, append-nil}
-use Prim.Native.Nat.{ℕ, ◌+◌, ◌<◌}
-use borrow.Author.Tests.{eqb-true}
-use lib.Dec.{eqb}
-use lib.ListN.{length, get_or}
+use Rattle.std.proofs.Common.{◌≡◌, refl, Bool, true, false, ◌&&◌, List, [], ◌∷◌, append-nil, ℕ, ◌+◌, ◌<◌, eqb-true, eqb, length, get_or, if◌then◌else◌}
 use Rattle.words.specs.Stored.{Room, Emitted}
 use Rattle.words.proofs.Laws.{either, not_both}
 use Rattle.telnet.specs.declared.Phase.{Phase}

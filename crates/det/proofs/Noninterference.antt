@@ -1,6 +1,5 @@
 -- Demand 3 carried to the code, proved: a chain of results that the contracts allow has the rules' answers and end.
-use mathlib.Core.Path.{◌≡◌, refl}
-use mathlib.Core.List.{List, map}
+use Rattle.std.proofs.Common.{◌≡◌, refl, List, map}
 use Rattle.rules.specs.Session.{State}
 use Rattle.rules.specs.Operation.{Outcome}
 use Rattle.rules.specs.Call.{Call, host, key, called, answered, answers_of, state_after}

@@ -89,17 +89,16 @@ erased_all chars attrs from end =
     ∙ true_or_false (in_range from end k) (λ e. rw e) (λ e. rw e (get_d-within chars k 0 32 h)))
 
 module _ (attrs : List ℕ) (from end i : ℕ) where
-  -- a cell of the range that is protected, and one that is not
-  module _ {r : ℕ} (e : r ≡ protection (get_or attrs i 0)) (a : from ≤ i) (b : i < end) (c : i < length attrs) (x : ℕ) where
-    flag : protected_at attrs i ≡ eqb r 1
-    unfolding protected_at
-    flag = rw (e, get_d-within attrs i 8 0 c)
+  protected_here : i < length attrs → protected_at attrs i ≡ eqb (protection (get_or attrs i 0)) 1
+  unfolding protected_at
+  protected_here c = rw (get_d-within attrs i 8 0 c)
 
-    pub kept_cell : r ≡ 1 → x ≡ (if in_range from end i && not (guarded_at false attrs i) then 32 else x)
-    kept_cell h = rw (in_range_lem from end i a b, flag, eq-eqb r 1 h)
-
-    pub space_cell : (r ≡ 1 → ⊥) → 32 ≡ (if in_range from end i && not (guarded_at false attrs i) then 32 else x)
-    space_cell h = rw (in_range_lem from end i a b, flag, ne_eqb r 1 h)
+  -- a cell of the range
+  pub kept_cell : from ≤ i → i < end → i < length attrs → (x : ℕ)
+      → (if eqb (protection (get_or attrs i 0)) 1 then x else 32) ≡ (if in_range from end i && not (guarded_at false attrs i) then 32 else x)
+  kept_cell a b c x =
+      let p : protected_at attrs i ≡ eqb (protection (get_or attrs i 0)) 1 = protected_here c in
+      rw (in_range_lem from end i a b, p) (true_or_false (eqb (protection (get_or attrs i 0)) 1) (λ e. rw e) (λ e. rw e))
 
   -- a cell after the range, or without an attribute byte
   pub not_erased : min end (length attrs) ≤ i → (in_range from end i && not (guarded_at false attrs i)) ≡ false

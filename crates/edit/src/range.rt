@@ -1,8 +1,9 @@
 // What becomes of the characters, attribute bytes and marks of a range of cells, from `from` up to `end`.
-ghost use Rattle.std.specs.Prelude.{◌≡◌, false};
+ghost use Rattle.std.specs.Prelude.{◌≡◌, false, eqb, if◌then◌else◌};
+ghost use Rattle.screen.specs.Attributes.{protection};
 ghost use Rattle.edit.specs.Edits.{shifted, on_part, erased, filled};
 
-use screen::attribute::protection;
+use screen::protection::Protection;
 
 // What is done at the start of a range: the rest of it moves.
 #[derive(Clone, Copy, Debug, PartialEq, Eq)]
@@ -52,15 +53,24 @@ pub fn fill(bytes: &mut [u8], from: usize, end: usize, byte: u8)
     }
 }
 
+// What a cell with this attribute byte then holds.
+fn kept(attr: u8, byte: u8) -> u8
+    ensures { result ≡ (if eqb (protection attr) 1 then byte else 32) }
+{
+    if Protection::of(attr) == Protection::Protected {
+        byte
+    } else {
+        32
+    }
+}
+
 // Spaces in the cells of the range that are not protected. The loop reads and stores each cell, so that the compiler does sixteen at once.
 fn erase_unprotected(chars: &mut [u8], attrs: &[u8], from: usize, end: usize)
     ensures { chars.new ≡ erased false chars.old attrs.now from end }
 {
     let stop = end.min(chars.len()).min(attrs.len());
     for i in from..stop {
-        let byte = chars[i];
-        let protected = protection(attrs[i]) == 1;
-        chars[i] = if protected { byte } else { 32 };
+        chars[i] = kept(attrs[i], chars[i]);
     }
 }
 

@@ -9,14 +9,14 @@ use crate::Screen;
 use crate::bytes::Reply;
 use crate::field::Separator;
 use command::number::DET;
-use screen::attribute::protection;
+use screen::protection::Protection;
 use telnet::code::{IAC, SB, SE};
 
 // Does an unprotected field start between these attribute bytes?
 fn opens_between(before: u8, here: u8) -> bool
     ensures { result ≡ (not (eqb before here) && not (eqb (protection here) 1)) }
 {
-    (before != here) & (protection(here) != 1)
+    (before != here) & (Protection::of(here) != Protection::Protected)
 }
 
 // Does one start at each of the thirty-two cells after this one? The loop has one way out, so that the compiler tests many at once.

@@ -10,7 +10,7 @@ ghost use Rattle.text.specs.Inner.Plain.{unguarded, Each, OpenRun, LastCounts};
 use command::character::is_printable;
 use command::frame::{cursor_cell, cursor_guarded};
 use rules::Frame;
-use screen::attribute::protection;
+use screen::protection::Protection;
 
 // A test on bytes.
 trait Test {
@@ -38,7 +38,7 @@ impl Test for Unguarded {
     ghost passed = { unguarded };
 
     fn passes(byte: u8) -> bool {
-        protection(byte) != 1
+        Protection::of(byte) != Protection::Protected
     }
 }
 

@@ -1,6 +1,4 @@
-use mathlib.Core.Path.{◌≡◌}
-use Prim.Native.Nat.{◌-◌}
-use lib.ListN.{length}
+use Rattle.std.proofs.Common.{◌≡◌, ◌-◌, length}
 use Rattle.rules.specs.Session.{placed}
 use Rattle.det.proofs.ApplyLaws.{Repeating}
 use Rattle.det.proofs.apply.repeat.Given as goal

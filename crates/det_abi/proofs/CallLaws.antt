@@ -1,6 +1,13 @@
 -- Laws of the three calls.
-use Rattle.std.proofs.Common.{◌≡◌, refl, sym, ap, ◌∙◌, Bool, true, false, not, List, [], ℕ, ◌≤◌, arith, ltb-true, ltb-false, lt-ltb, le-ltb, eq-eqb, ne_eqb, leb, ltb, length}
-use borrow.Author.Tests.{lt-leb}
+use Rattle.std.specs.Prelude.{Err}
+use mathlib.Core.Path.{◌≡◌, refl, sym, ap, ◌∙◌}
+use mathlib.Core.Bool.{Bool, true, false, not}
+use mathlib.Core.List.{List, []}
+use Prim.Native.Nat.{ℕ, ◌≤◌}
+use native.Mathlib.Omega.{arith}
+use borrow.Author.Tests.{ltb-true, ltb-false, lt-ltb, le-ltb, lt-leb, eq-eqb, ne_eqb}
+use lib.Dec.{leb, ltb}
+use lib.ListN.{length}
 use Rattle.words.proofs.Laws.{true_or_false, and_right, and_false}
 use Rattle.rules.specs.declared.Session.{Session}
 use Rattle.rules.specs.declared.Frame.{Frame}
@@ -9,7 +16,8 @@ use Rattle.rules.specs.declared.Refusal.{Refusal}
 use Rattle.rules.specs.declared.Key.TheVariants.{Meaningless}
 use Rattle.rules.specs.Session.{Screen, State, line_takes_keys, fresh_frame, state}
 use Rattle.rules.specs.Edition.{edition_of}
-use Rattle.rules.specs.Refusal.{number_of, is_taken, verdict, open_tests}
+use Rattle.rules.specs.Refusal.{number_of, told_number, verdict, open_tests}
+use Rattle.rules.proofs.Verdicts.{taken_or_refused}
 use Rattle.rules.specs.Key.{key_of}
 use Rattle.rules.specs.Pad.{takes_key}
 use Rattle.rules.specs.Operation.{Outcome, outcome, unless, host_refusal, host_bytes, key_refusal, one_key, opened}
@@ -74,10 +82,11 @@ module _ (m n named : ℕ) (session : List ℕ) (b : Screen) where
 
   opened_counts : let a = (opened m n named b).answer in (a.taken ≡ 0) × (a.written ≡ 0)
   unfolding opened unless
-  opened_counts = true_or_false (is_taken (verdict (open_tests (fresh_frame m n (edition_of named)) named b))) (λ t. rw t (refl, refl)) (λ f. rw f (refl, refl))
+  opened_counts =
+      taken_or_refused (verdict (open_tests (fresh_frame m n (edition_of named)) named b)) (λ t. rw t (refl, refl)) (λ r f. rw f (refl, refl))
 
   pub open_done : {a : Answer} {number : ℕ} {session' : List ℕ} {b' : Screen} → length session ≡ session_length
-      → outcome a b' [] ≡ opened m n named b → number ≡ number_of a.refusal → session' ≡ encoded a.session
+      → outcome a b' [] ≡ opened m n named b → number ≡ told_number a.verdict → session' ≡ encoded a.session
       → result_of number session' 0 0 b' [] ≡ open_call m n named session b
   unfolding open_call provided
   open_done {a} t s p q =
@@ -117,15 +126,13 @@ module _ (session : List ℕ) (b : Screen) (reply : List ℕ) where
 abbrev refused_call : Refusal → List ℕ → Screen → List ℕ → Result
 refused_call r session b reply = result_of (number_of r) session 0 0 b reply
 
-module _ (session : List ℕ) (known : is_session session ≡ true) (b : Screen) (reply : List ℕ) where
-  pub host_refused : (input : List ℕ) →
-      let why = host_refusal (state (decoded session) b) reply in
-      is_taken why ≡ false → host_call session input b reply ≡ refused_call why session b reply
+module _ (session : List ℕ) (known : is_session session ≡ true) (b : Screen) (reply : List ℕ) {why : Refusal} where
+  pub host_refused : (input : List ℕ) → host_refusal (state (decoded session) b) reply ≡ Err why
+      → host_call session input b reply ≡ refused_call why session b reply
   unfolding host_call provided host_bytes unless
   host_refused input f = rw (known, f, encoded_decoded session known)
 
-  pub key_refused : (key : ℕ) →
-      let why = key_refusal (state (decoded session) b) reply key in
-      is_taken why ≡ false → key_call session key b reply ≡ refused_call why session b reply
+  pub key_refused : (key : ℕ) → key_refusal (state (decoded session) b) reply key ≡ Err why
+      → key_call session key b reply ≡ refused_call why session b reply
   unfolding key_call provided one_key unless
   key_refused key f = rw (known, f, encoded_decoded session known)

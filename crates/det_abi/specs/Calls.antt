@@ -2,7 +2,7 @@
 use Rattle.std.specs.Prelude.{◌≡◌, Bool, true, false, List, [], ℕ, eqb, ltb, length, if◌then◌else◌}
 use Rattle.rules.specs.declared.Answer.{Answer}
 use Rattle.rules.specs.Session.{Screen, state}
-use Rattle.rules.specs.Refusal.{number_of}
+use Rattle.rules.specs.Refusal.{told_number}
 use Rattle.rules.specs.Operation.{Outcome, opened, host_bytes, one_key}
 use Rattle.layout.specs.Layout.{session_length, encoded, is_session, decoded}
 
@@ -21,7 +21,7 @@ result_of number session taken written b reply =
 
 -- an answer as numbers and bytes: 0 where the call is taken, else the refusal's number
 abbrev pub given : Answer → Screen → List ℕ → Result
-given a b reply = result_of (number_of a.refusal) (encoded a.session) a.taken a.written b reply
+given a b reply = result_of (told_number a.verdict) (encoded a.session) a.taken a.written b reply
 
 -- what the rules say
 abbrev pub told : Outcome → Result
@@ -56,7 +56,7 @@ key_byte key = if ltb key 256 then key else 255
 
 -- an answer's number, session and counts, as a call returns and leaves them
 pub record Gives (a : Answer) (number : ℕ) (session : List ℕ) (taken written : ℕ) : Type 0 where
-  pub number_is : number ≡ number_of a.refusal
+  pub number_is : number ≡ told_number a.verdict
   pub session_is : session ≡ encoded a.session
   pub taken_is : taken ≡ a.taken
   pub written_is : written ≡ a.written

@@ -2,12 +2,12 @@
 // their caller, and return 0 where the call is taken, the refusal's number where the rules refuse it, and 255 where the bytes are
 // no session.
 ghost use Rattle.std.specs.Prelude.{◌≡◌, [], length};
-ghost use Rattle.rules.specs.Refusal.{number_of};
+ghost use Rattle.rules.specs.Refusal.{told_number};
 ghost use Rattle.layout.specs.Layout.{session_length, encoded};
 ghost use Rattle.command.specs.Frame.{lent};
 ghost use Rattle.det_abi.specs.Calls.{result_of, open_call, host_call, key_call, key_byte, Gives};
 
-use admit::number::number_of;
+use admit::number::told_number;
 use admit::open::open;
 use det::operation::{host_bytes, key};
 use layout::{SESSION_LENGTH, decode, encode, is_session};
@@ -19,11 +19,11 @@ const NO_SESSION: u8 = 255;
 #[tactic(auto, using(layout::proofs::LayoutLaws::stored_there))]
 fn tell(answer: Answer, session: &mut [u8]) -> u8
     requires { length session.old ≡ session_length }
-    ensures number { result ≡ number_of answer.refusal }
+    ensures number { result ≡ told_number answer.verdict }
     ensures session { session.new ≡ encoded answer.session }
 {
     encode(answer.session, session);
-    number_of(answer.refusal)
+    told_number(answer.verdict)
 }
 
 // The same, and the answer's two counts.

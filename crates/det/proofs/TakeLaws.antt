@@ -17,7 +17,7 @@ use Rattle.rules.specs.Refusal.{is_taken}
 use Rattle.rules.specs.Effect.{Effect, changed_all, marks_after, spelled_all, changing, quiet}
 use Rattle.rules.specs.Telnet.{held_after, cr_after, host_data}
 use Rattle.rules.specs.Pad.{is_x3, pad_after, response, passes}
-use Rattle.rules.specs.Operation.{applied, happening, host_byte, host_refusal}
+use Rattle.rules.specs.Operation.{applied, happening, host_byte}
 use Rattle.rules.specs.Call.{host}
 use Rattle.rules.proofs.Sound.{Accepted, sound_of}
 use Rattle.rules.proofs.Room.{room_byte}

@@ -1,13 +1,6 @@
 -- Laws of the three calls.
-use Rattle.std.specs.Prelude.{Err}
-use mathlib.Core.Path.{◌≡◌, refl, sym, ap, ◌∙◌}
-use mathlib.Core.Bool.{Bool, true, false, not}
-use mathlib.Core.List.{List, []}
-use Prim.Native.Nat.{ℕ, ◌≤◌}
-use native.Mathlib.Omega.{arith}
-use borrow.Author.Tests.{ltb-true, ltb-false, lt-ltb, le-ltb, lt-leb, eq-eqb, ne_eqb}
-use lib.Dec.{leb, ltb}
-use lib.ListN.{length}
+use Rattle.std.proofs.Common.{◌≡◌, refl, sym, ap, ◌∙◌, true, false, List, [], ℕ, ◌≤◌, arith, ltb-true, ltb-false, lt-ltb, le-ltb, eq-eqb, ne_eqb, leb, ltb, length, Err}
+use borrow.Author.Tests.{lt-leb}
 use Rattle.words.proofs.Laws.{true_or_false, and_right, and_false}
 use Rattle.rules.specs.declared.Session.{Session}
 use Rattle.rules.specs.declared.Frame.{Frame}

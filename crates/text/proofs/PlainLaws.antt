@@ -1,6 +1,7 @@
 -- Laws of characters in a row: what one copy does, or the last of them, is what they do one after the other.
-use Rattle.std.proofs.Common.{◌≡◌, refl, sym, ap, ◌∙◌, Bool, true, false, List, ℕ, zero, suc, ◌+◌, ◌-◌, ◌≤◌, ◌<◌, not-suc-le-zero, arith, le-leb, lt-ltb, le-ltb, leb, eqb, length, get_or, set, drop, length-drop, get_or-drop, set-set}
+use Rattle.std.proofs.Common.{◌≡◌, refl, sym, ap, ◌∙◌, Bool, true, false, List, ℕ, zero, suc, ◌+◌, ◌-◌, ◌≤◌, ◌<◌, not-suc-le-zero, arith, le-leb, lt-ltb, le-ltb, leb, eqb, length, get_or, set, take, drop, length-drop, get_or-drop, set-set}
 use borrow.Author.Tests.{not-true}
+use Rattle.std.proofs.lemmas.List.{get_or-take}
 use lib.Seq.{paste, paste-zero, paste-suc}
 use Rattle.screen.specs.Attributes.{protection, protected_at, guarded_at}
 use Rattle.screen.specs.declared.cell.Place.{Place}
@@ -50,6 +51,19 @@ each_two {from = from} e f = let a : from + 0 ≡ from = omega arith in each_nex
 pub each_row : {test : ℕ → Bool} {xs : List ℕ} {from n : ℕ} → Each test xs from 2 → Each test xs (from + 2) n
     → Each test xs from (from + 2 + n - from)
 each_row {from = from} {n} p q = let e : from + 2 + n - from ≡ 2 + n = omega arith in rw e (each_on p 2 (omega arith) q)
+
+-- bytes of a part are bytes of the whole
+pub each_part : {test : ℕ → Bool} {xs ys : List ℕ} {from n : ℕ} → ((i : ℕ) → i < n → get_or ys i 0 ≡ get_or xs (from + i) 0)
+    → Each test ys 0 n → Each test xs from n
+each_part {test} {ys = ys} e p = record {
+  each = λ i h. let z : 0 + i ≡ i = omega arith in ap test (sym (e i h)) ∙ rw z at (p.each i h);
+}
+
+pub each_drop : {test : ℕ → Bool} {xs : List ℕ} {from n : ℕ} → Each test (drop from xs) 0 n → Each test xs from n
+each_drop {xs = xs} {from} p = each_part (λ i h. get_or-drop from xs i 0) p
+
+pub each_within : {test : ℕ → Bool} {xs : List ℕ} {from m n : ℕ} → Each test (take m (drop from xs)) 0 n → n ≤ m → Each test xs from n
+each_within {xs = xs} {from} {m} p l = each_part (λ i h. get_or-take m (drop from xs) i 0 (omega arith) ∙ get_or-drop from xs i 0) p
 
 -- ---- cells that are not guarded
 

@@ -56,12 +56,11 @@ fn sixteen<T: Test>(bytes: &[u8], from: usize) -> bool
 }
 
 #[tactic(auto, using(crate::proofs::PlainLaws::each_on))]
-fn by_sixteens<T: Test>(bytes: &[u8], from: usize, most: usize) -> usize
-    requires { most ≤ length bytes.now - from }
-    ensures { (result ≤ most) × Each T.passed bytes.now from result }
+fn by_sixteens<T: Test>(bytes: &[u8]) -> usize
+    ensures { (result ≤ length bytes.now) × Each T.passed bytes.now 0 result }
 {
     let mut n = 0;
-    while 16 <= most - n && sixteen::<T>(bytes, from + n) {
+    while 16 <= bytes.len() - n && sixteen::<T>(bytes, n) {
         n += 16;
     }
     n
@@ -69,25 +68,24 @@ fn by_sixteens<T: Test>(bytes: &[u8], from: usize, most: usize) -> usize
 
 // The last sixteen, some of them tested twice, stand for the rest.
 #[tactic(auto, using(crate::proofs::PlainLaws::each_on))]
-fn by_ends<T: Test>(bytes: &[u8], from: usize, most: usize) -> usize
-    requires { most ≤ length bytes.now - from }
-    ensures { (result ≤ most) × Each T.passed bytes.now from result }
+fn by_ends<T: Test>(bytes: &[u8]) -> usize
+    ensures { (result ≤ length bytes.now) × Each T.passed bytes.now 0 result }
 {
-    let n = by_sixteens::<T>(bytes, from, most);
-    if 16 <= most && most - n < 16 && sixteen::<T>(bytes, from + (most - 16)) {
-        return most;
+    let all = bytes.len();
+    let n = by_sixteens::<T>(bytes);
+    if 16 <= all && all - n < 16 && sixteen::<T>(bytes, all - 16) {
+        return all;
     }
     n
 }
 
-// How many, at most `most`.
+// How many, from the first on.
 #[tactic(auto, using(crate::proofs::PlainLaws::each_next))]
-fn count<T: Test>(bytes: &[u8], from: usize, most: usize) -> usize
-    requires { most ≤ length bytes.now - from }
-    ensures { (result ≤ most) × Each T.passed bytes.now from result }
+fn count<T: Test>(bytes: &[u8]) -> usize
+    ensures { (result ≤ length bytes.now) × Each T.passed bytes.now 0 result }
 {
-    let mut n = by_ends::<T>(bytes, from, most);
-    while n < most && T::passes(bytes[from + n]) {
+    let mut n = by_ends::<T>(bytes);
+    while n < bytes.len() && T::passes(bytes[n]) {
         n += 1;
     }
     n
@@ -103,11 +101,12 @@ pub(crate) fn character_at(bytes: &[u8], at: usize) -> bool
 }
 
 // How many stand there in a row.
+#[tactic(auto, using(crate::proofs::PlainLaws::each_drop))]
 pub(crate) fn count_characters(bytes: &[u8], from: usize) -> usize
     requires { from ≤ length bytes.now }
     ensures { (from + result ≤ length bytes.now) × Each printable bytes.now from result }
 {
-    count::<Printable>(bytes, from, bytes.len() - from)
+    count::<Printable>(&bytes[from..])
 }
 
 // ---- cells in a row that are not guarded
@@ -123,15 +122,15 @@ fn room_on_line(frame: Frame, cells: usize) -> usize
 
 // How many characters, at most `most`, go into their cells by one copy: from the cursor on, before the last cell of its line, on a
 // screen of `cells` cells.
-#[tactic(auto, using(crate::proofs::PlainLaws::free_each))]
 pub(crate) fn open_run(frame: Frame, attrs: &[u8], cells: usize, most: usize) -> usize
     ensures { OpenRun frame attrs.now cells most result }
 {
     let few = room_on_line(frame, cells.min(attrs.len())).min(most);
-    if frame.suppressed {
+    if frame.suppressed || few == 0 {
         return few;
     }
-    count::<Unguarded>(attrs, cursor_cell(frame), few)
+    let cell = cursor_cell(frame);
+    count::<Unguarded>(&attrs[cell..cell + few])
 }
 
 // ---- where the cursor stays

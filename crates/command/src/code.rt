@@ -9,7 +9,7 @@ use crate::number::*;
 use rules::{Code, Edition};
 
 // The command that a code means; what is sent only stands here too, since its code is written by the table.
-#[derive(Clone, Copy)]
+#[derive(Clone, Copy, Debug, PartialEq, Eq)]
 struct Entry(u8);
 
 const COUNT: u8 = 42;

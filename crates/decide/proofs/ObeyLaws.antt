@@ -18,7 +18,7 @@ use Rattle.rules.specs.Session.{View, cells, cursor_cell, with_attrs}
 use Rattle.rules.specs.Number.{error, fault_number}
 use Rattle.rules.specs.Edition.{code_for}
 use Rattle.rules.specs.Command.{Row, row_of, meaning, code_in, parameter, fault_of}
-use Rattle.rules.specs.Effect.{Effect}
+use Rattle.rules.specs.Effect.{Effect, kept}
 use Rattle.rules.specs.Cursor.{cursor_guarded, home_cell, back_tab_cell, first_field_cell, next_field_cell, previous_open_cell}
 use Rattle.rules.specs.Telnet.{host_character, host_characters}
 use Rattle.rules.specs.Subcommand.{obeyed, erring, judged, looked, subcommand}
@@ -88,6 +88,12 @@ repeat_silent : (n : ℕ) (v : View) (c : ℕ) → (host_characters n v c).reply
 unfolding host_characters
 repeat_silent zero v c = refl
 repeat_silent (suc n) v c = refl
+
+-- nor does it mark
+pub repeat_unmarked : (n : ℕ) (v : View) (c : ℕ) → (host_characters n v c).marking ≡ kept
+unfolding host_characters
+repeat_unmarked zero v c = refl
+repeat_unmarked (suc n) v c = refl
 
 pub repeated : {v : View} {d : Decision} (h : Held) {n c : ℕ} → n ≡ parameter h 0 → c ≡ parameter h 1
     → d ≡ decision v.frame (edit.Repeat n c) Silent → Decides v d (λ v. obeyed v Repeat h)

@@ -9,7 +9,7 @@ use telnet::Verb;
 
 // What becomes of the characters. (Request (v): `Put`, a typed character, and `Shift` mark the cells that they write.)
 // No Option: nothing is one of the cases, and each use would match twice (`None`, `Some(Edit::Put { .. })`, ..). So too `Say::Silent`.
-#[derive(Clone, Copy)]
+#[derive(Clone, Copy, Debug, PartialEq, Eq)]
 pub enum Edit {
     Nothing,
     Put {
@@ -37,7 +37,7 @@ pub enum Edit {
 }
 
 // What is sent.
-#[derive(Clone, Copy)]
+#[derive(Clone, Copy, Debug, PartialEq, Eq)]
 pub enum Say {
     Silent,
     Negotiation {
@@ -76,7 +76,7 @@ pub struct Fill {
     pub attr: u8,
 }
 
-#[derive(Clone, Copy)]
+#[derive(Clone, Copy, Debug, PartialEq, Eq)]
 pub struct Decision {
     pub frame: Frame,
     pub edit: Edit,

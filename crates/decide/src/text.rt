@@ -33,7 +33,7 @@ pub enum Fate {
 }
 
 // A character's fate, and the cursor after it.
-#[derive(Clone, Copy)]
+#[derive(Clone, Copy, Debug, PartialEq, Eq)]
 pub struct Writing {
     pub fate: Fate,
     pub cursor: Place,

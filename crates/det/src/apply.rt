@@ -18,7 +18,7 @@ use reply::write_reply;
 use rules::{Edition, Frame};
 use text::data::{put_character, set_cell};
 
-#[derive(Clone, Copy)]
+#[derive(Clone, Copy, Debug, PartialEq, Eq)]
 pub struct Applied {
     pub frame: Frame,
     pub written: usize,

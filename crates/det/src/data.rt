@@ -43,7 +43,7 @@ pub(crate) fn obey_data(
 }
 
 // The frame after some data, and whether it ended in a CR.
-#[derive(Clone, Copy)]
+#[derive(Clone, Copy, Debug, PartialEq, Eq)]
 pub struct DataTurn {
     pub frame: Frame,
     pub cr: bool,

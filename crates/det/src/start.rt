@@ -19,7 +19,7 @@ pub(crate) fn in_message(phase: Phase) -> bool
 
 // The input, of which something is left from `from` on, and what a turn goes by. Of the PAD that is `lf` alone: is CR LF printed as such? Its
 // reply goes to `at`.
-#[derive(Clone, Copy)]
+#[derive(Clone, Copy, Debug, PartialEq, Eq)]
 pub struct Start<'a> {
     pub input: &'a [u8],
     pub from: usize,

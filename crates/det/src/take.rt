@@ -25,7 +25,7 @@ use telnet::{Event, Phase};
 
 // Where some bytes leave the frame and the reader, what was told last, where they end in the input, and where the next reply goes. The
 // PAD is left to the caller, who tells it: it is large, and a turn is short.
-#[derive(Clone, Copy)]
+#[derive(Clone, Copy, Debug, PartialEq, Eq)]
 pub struct Turn {
     pub frame: Frame,
     pub reader: Reader,
@@ -35,7 +35,7 @@ pub struct Turn {
 }
 
 // What is told next: `held` is what was held before it, `reader` stands after it, at `next`.
-#[derive(Clone, Copy)]
+#[derive(Clone, Copy, Debug, PartialEq, Eq)]
 pub struct Told {
     pub event: Event,
     pub held: Held,

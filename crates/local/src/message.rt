@@ -37,7 +37,7 @@ fn answer(frame: Frame, pad: Pad, event: Event, reply: &mut [u8], at: usize) -> 
 }
 
 // What a byte tells, and the reader after it.
-#[derive(Clone, Copy)]
+#[derive(Clone, Copy, Debug, PartialEq, Eq)]
 pub struct ByteRead {
     pub event: Event,
     pub reader: Reader,
@@ -59,7 +59,7 @@ pub fn read_byte(reader: Reader, byte: u8) -> ByteRead
 }
 
 // Where a byte leaves the PAD, and where the next reply goes.
-#[derive(Clone, Copy)]
+#[derive(Clone, Copy, Debug, PartialEq, Eq)]
 pub struct PadTurn {
     pub reader: Reader,
     pub pad: Pad,

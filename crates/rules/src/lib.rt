@@ -10,14 +10,14 @@ use screen::cell::Place;
 use telnet::Phase;
 
 // The first bytes of a subnegotiation after its option byte, and how many they are: the count stops at 6.
-#[derive(Clone, Copy)]
+#[derive(Clone, Copy, Debug, PartialEq, Eq)]
 pub struct Held {
     pub bytes: [u8; 6],
     pub count: u8,
 }
 
 // Facility maps, a byte for each class and two for formatting.
-#[derive(Clone, Copy)]
+#[derive(Clone, Copy, Debug, PartialEq, Eq)]
 pub struct Maps {
     pub edit: u8,
     pub erase: u8,
@@ -35,7 +35,7 @@ pub enum Edition {
 
 // What the rules go by: the screen's size, the edition, the cursor, which options are on, protection suppressed or in effect, and the maps
 // received in the latest facility command of each class.
-#[derive(Clone, Copy)]
+#[derive(Clone, Copy, Debug, PartialEq, Eq)]
 pub struct Frame {
     pub width: u8,
     pub height: u8,
@@ -48,7 +48,7 @@ pub struct Frame {
 }
 
 // How far the host's bytes are read: where the reader stands, what is held, and whether the last byte of data was a CR.
-#[derive(Clone, Copy)]
+#[derive(Clone, Copy, Debug, PartialEq, Eq)]
 pub struct Reader {
     pub phase: Phase,
     pub held: Held,
@@ -56,7 +56,7 @@ pub struct Reader {
 }
 
 // What the X.3 PAD keeps: its parameters' values, the edit line, and the message of option 30 as far as it is read.
-#[derive(Clone, Copy)]
+#[derive(Clone, Copy, Debug, PartialEq, Eq)]
 pub struct Pad {
     pub values: Values,
     pub line: EditLine,
@@ -64,7 +64,7 @@ pub struct Pad {
 }
 
 // All that is kept between two calls, besides the lent buffers.
-#[derive(Clone, Copy)]
+#[derive(Clone, Copy, Debug, PartialEq, Eq)]
 pub struct Session {
     pub frame: Frame,
     pub reader: Reader,
@@ -99,7 +99,7 @@ pub enum Refusal {
 pub type Verdict = Result<(), Refusal>;
 
 // What each operation answers. (Document 01, refusal numbers: a refusal has counts of 0, so they stand beside the verdict.)
-#[derive(Clone, Copy)]
+#[derive(Clone, Copy, Debug, PartialEq, Eq)]
 pub struct Answer {
     pub session: Session,
     pub verdict: Verdict,
@@ -149,7 +149,7 @@ pub enum Area {
 }
 
 // A subcommand by its meaning.
-#[derive(Clone, Copy)]
+#[derive(Clone, Copy, Debug, PartialEq, Eq)]
 pub enum Command {
     Facilities(Facility),
     // to the place that its parameters name
@@ -183,7 +183,7 @@ pub enum Governor {
 }
 
 // What the list of subcommands says of a code: what it means, how many parameters it takes, and what governs it, if anything does.
-#[derive(Clone, Copy)]
+#[derive(Clone, Copy, Debug, PartialEq, Eq)]
 pub struct Code {
     pub command: Command,
     pub parameters: u8,
@@ -203,7 +203,7 @@ pub enum Fault {
 }
 
 // A key by its meaning.
-#[derive(Clone, Copy)]
+#[derive(Clone, Copy, Debug, PartialEq, Eq)]
 pub enum Key {
     Typed(u8),
     Back,

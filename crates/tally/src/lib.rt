@@ -54,7 +54,7 @@ impl Tally {
 
 // A stream read up to `at`: where the reader stands, and the counts so far. Those and the counts of what is left are those of the
 // whole, and they fit, since no more is counted than bytes are read.
-#[derive(Clone, Copy)]
+#[derive(Clone, Copy, Debug, PartialEq, Eq)]
 struct Progress<'a> {
     input: &'a [u8],
     phase: Phase,

@@ -10,7 +10,7 @@ loop-i-preserved c =
     let a = c.args in (
       omega arith,
       storing_next l.invariant.1 (omega arith)
-      (c.kept.ensures ∙ kept_cell a.attrs.now a.from a.end l.i (omega arith) (omega arith) (omega arith) _),
+          (c.kept.ensures ∙ kept_cell a.attrs.now a.from a.end l.i (omega arith) (omega arith) (omega arith) _),
     )
 
 pub returns : goal.returns

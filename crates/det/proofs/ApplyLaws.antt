@@ -16,16 +16,7 @@ use Rattle.decide.specs.Decision.{edited}
 use Rattle.decide.specs.Inner.Decision.{changes_of, marking_of, Once}
 use Rattle.text.specs.Text.{Changes}
 
--- what the other arm of a match on Repeat knows
-pub not_repeat : (edit : Edit) → OneOf (0 ∷ 1 ∷ 2 ∷ 3 ∷ []) (tag_of the_type edit) → Once edit
-not_repeat Nothing h v = refl
-not_repeat (Put cell c) h v = refl
-not_repeat (Erase suppressed from end) h v = refl
-not_repeat (Shift s from end by) h v = refl
-not_repeat (Repeat n c) h v =
-    absurd (⊎_elim (λ p. omega arith) (⊎_elim (λ p. omega arith) (⊎_elim (λ p. omega arith) (λ p. omega arith))) h)
-
--- a edit that is done at once leaves the frame as it is
+-- an edit that is done at once leaves the frame as it is
 pub changes_once : (edit : Edit) {f : Frame} {chars attrs chars' : List ℕ} → Once edit
     → chars' ≡ changed_all chars attrs (changes_of edit) → Changes (edited (view f attrs) edit) chars attrs f chars'
 changes_once edit {f} {attrs = attrs} once e = rw (once (view f attrs)) (record { frame = refl; characters = e })
@@ -44,15 +35,6 @@ marking_of_lem v (Erase suppressed from end) = refl
 marking_of_lem v (Shift s from end by) = refl
 marking_of_lem v (Repeat zero c) = refl
 marking_of_lem v (Repeat (suc n) c) = refl
-
--- all but a typed character and a shift mark nothing
-pub marks_none : (edit : Edit) (marks : List ℕ) → OneOf (0 ∷ 2 ∷ 4 ∷ []) (tag_of the_type edit) → marks ≡ marks_after marks (marking_of edit)
-unfolding marks_after
-marks_none Nothing marks h = refl
-marks_none (Put cell c) marks h = absurd (miss (0 ∷ 2 ∷ 4 ∷ []) 1 tt h)
-marks_none (Erase suppressed from end) marks h = refl
-marks_none (Shift s from end by) marks h = absurd (miss (0 ∷ 2 ∷ 4 ∷ []) 3 tt h)
-marks_none (Repeat n c) marks h = refl
 
 -- ---- REPEAT
 

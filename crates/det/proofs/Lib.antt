@@ -1,6 +1,5 @@
 pub mod ApplyLaws
 pub mod QuietLaws
-pub mod StartLaws
 pub mod TakeLaws
 pub mod HostLaws
 pub mod MessageLaws

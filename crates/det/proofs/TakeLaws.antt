@@ -64,31 +64,6 @@ module _ {e : Effect} {f : Frame} {b : Screen} {reply : List ℕ} {at : ℕ} (a 
         replies = r.replies;
       }
 
--- the events on which nothing is done, data aside: all but a negotiation and an end
-pub idle : (v : View) (h : Held) (e : Event) → OneOf (0 ∷ 1 ∷ 3 ∷ 4 ∷ 6 ∷ 7 ∷ []) (tag_of the_type e) → told_effect v h e ≡ quiet v
-unfolding told_effect
-idle v h Nothing k = refl
-idle v h (Data b) k = refl
-idle v h (Negotiation verb option) k = absurd (miss (0 ∷ 1 ∷ 3 ∷ 4 ∷ 6 ∷ 7 ∷ []) 2 tt k)
-idle v h (Begin option) k = refl
-idle v h (Sub option b) k = refl
-idle v h (End option) k = absurd (miss (0 ∷ 1 ∷ 3 ∷ 4 ∷ 6 ∷ 7 ∷ []) 5 tt k)
-idle v h EndBare k = refl
-idle v h Lost k = refl
-
--- data aside, what is done does not go by CR and LF
-pub not_data : (v : View) (lf : Bool) (h : Held) (cr : Bool) (e : Event) → OneOf (0 ∷ 2 ∷ 3 ∷ 4 ∷ 5 ∷ 6 ∷ 7 ∷ []) (tag_of the_type e)
-    → det_effect v lf h cr e ≡ told_effect v h e
-unfolding det_effect
-not_data v lf h cr Nothing k = refl
-not_data v lf h cr (Data b) k = absurd (miss (0 ∷ 2 ∷ 3 ∷ 4 ∷ 5 ∷ 6 ∷ 7 ∷ []) 1 tt k)
-not_data v lf h cr (Negotiation verb option) k = refl
-not_data v lf h cr (Begin option) k = refl
-not_data v lf h cr (Sub option b) k = refl
-not_data v lf h cr (End option) k = refl
-not_data v lf h cr EndBare k = refl
-not_data v lf h cr Lost k = refl
-
 -- what is done on an event is what the rules say, but for the end of a message of option 30
 pub det_effect_lem : (v : View) (r : Reader) (p : Pad) (e : Event) → ((option : ℕ) → e ≡ End option → is_x3 option ≡ false)
     → happening v r p e ≡ det_effect v (prints_lf p.values) r.held r.cr e

@@ -47,7 +47,7 @@ fn change_cells(edit: Edit, chars: &mut [u8], attrs: &[u8])
 }
 
 // 37: a host character so many times.
-#[tactic(auto, using(crate::proofs::ApplyLaws::repeating_start, crate::proofs::ApplyLaws::repeating_more, crate::proofs::ApplyLaws::repeating_end))]
+#[tactic(auto, using(crate::proofs::ApplyLaws::repeating_more, crate::proofs::ApplyLaws::repeating_end))]
 fn repeat(frame: Frame, count: u8, byte: u8, chars: &mut [u8], attrs: &[u8]) -> Frame
     ensures { Changes (edited (seen frame attrs.now) (Edit.Repeat count byte))
         chars.old attrs.now result chars.new }
@@ -60,7 +60,7 @@ fn repeat(frame: Frame, count: u8, byte: u8, chars: &mut [u8], attrs: &[u8]) -> 
 }
 
 // The frame afterwards: REPEAT moves the cursor as it writes.
-#[tactic(auto, using(crate::proofs::ApplyLaws::not_repeat, crate::proofs::ApplyLaws::changes_once))]
+#[tactic(auto, using(crate::proofs::ApplyLaws::changes_once))]
 pub(crate) fn change_chars(frame: Frame, edit: Edit, chars: &mut [u8], attrs: &[u8]) -> Frame
     ensures { Changes (edited (seen frame attrs.now) edit) chars.old attrs.now result chars.new }
 {

@@ -7,7 +7,7 @@ use rules::{Frame, Reader};
 use telnet::Phase;
 
 // Does the reader stand in a message of option 30?
-#[tactic(auto, using(crate::proofs::StartLaws::in_none), unfolding(crate::specs::Inner::Message::in_message))]
+#[tactic(auto, unfolding(crate::specs::Inner::Message::in_message))]
 pub(crate) fn in_message(phase: Phase) -> bool
     ensures { result ≡ in_message phase }
 {

@@ -126,6 +126,7 @@ fn told_at(here: Start) -> Told
 }
 
 // A whole subnegotiation, or one byte.
+// The lent buffers stay slices: a struct of `&mut`s adds to each contract that its references stay, and `key` lends `attrs` as a `&`.
 fn take_told(
     here: Start,
     chars: &mut [u8],

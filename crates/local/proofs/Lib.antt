@@ -1,2 +1,1 @@
-pub mod MessageLaws
 pub mod ToldLaws

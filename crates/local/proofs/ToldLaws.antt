@@ -13,18 +13,6 @@ use Rattle.rules.specs.declared.Pad.{Pad}
 use Rattle.rules.specs.Pad.{is_x3, pad_after, with_message}
 use Rattle.local.specs.Told.{ends_other}
 
--- no other event is such an end
-pub ends_no_other : (e : Event) → OneOf (0 ∷ 1 ∷ 2 ∷ 3 ∷ 4 ∷ 6 ∷ 7 ∷ []) (tag_of the_type e) → false ≡ ends_other e
-unfolding ends_other
-ends_no_other Nothing k = refl
-ends_no_other (Data b) k = refl
-ends_no_other (Negotiation verb option) k = refl
-ends_no_other (Begin option) k = refl
-ends_no_other (Sub option b) k = refl
-ends_no_other (End option) k = absurd (miss (0 ∷ 1 ∷ 2 ∷ 3 ∷ 4 ∷ 6 ∷ 7 ∷ []) 5 tt k)
-ends_no_other EndBare k = refl
-ends_no_other Lost k = refl
-
 pub other_clears : (f : Frame) (p : Pad) (e : Event) → ends_other e ≡ true → pad_after f p e ≡ with_message p idle_message
 unfolding ends_other pad_after
 other_clears f p Nothing h = not_both false h refl

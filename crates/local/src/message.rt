@@ -22,7 +22,7 @@ fn is_answered(frame: Frame, pad: Pad, option: u8) -> bool
 }
 
 // RESPONSE-IS where it is asked for: the place after it.
-#[tactic(auto, using(reply::proofs::WriteLaws::wrote_none, crate::proofs::MessageLaws::unanswered), unfolding(crate::specs::Message::answer_pieces))]
+#[tactic(auto, using(reply::proofs::WriteLaws::wrote_none), unfolding(crate::specs::Message::answer_pieces))]
 fn answer(frame: Frame, pad: Pad, event: Event, reply: &mut [u8], at: usize) -> usize
     ensures { Wrote reply.old at (answer_pieces frame pad event) reply.new result }
 {

@@ -70,7 +70,7 @@ fn negotiated_pad(frame: Frame, pad: Pad, verb: Verb, option: u8) -> Pad
 }
 
 // Is it the end of a subnegotiation of another option? Then nothing of a message is half read, and the PAD is otherwise as before.
-#[tactic(auto, using(crate::proofs::ToldLaws::ends_no_other), unfolding(crate::specs::Told::ends_other))]
+#[tactic(auto, unfolding(crate::specs::Told::ends_other))]
 pub fn ends_other(event: Event) -> bool
     ensures { result ≡ ends_other event }
 {

@@ -36,7 +36,7 @@ pub fn refuse_line(pad: Pad, code: u8) -> Verdict
 }
 
 // An echo, written as host text: the frame after it.
-#[tactic(auto, using(text::proofs::TextLaws::texted_none, text::proofs::TextLaws::texted_more, text::proofs::TextLaws::texted_all))]
+#[tactic(auto, using(text::proofs::TextLaws::texted_all))]
 fn write_echo(frame: Frame, echo: Echo, line: EditLine, chars: &mut [u8], attrs: &[u8]) -> Frame
     ensures { Changes (host_text (seen frame attrs.now) (bytes_of echo (text_of line)))
         chars.old attrs.now result chars.new }

@@ -1,15 +1,12 @@
 -- Laws of changes: REPEAT is done one character at a time, and every other edit at once.
-use Rattle.std.proofs.Common.{◌≡◌, refl, sym, ⊎_elim, List, [], ◌∷◌, ◌++◌, ℕ, zero, suc, ◌≤◌, arith}
-use types.Run.{OneOf, miss}
-use denote.Enum.Declared.{tag_of}
+use Rattle.std.proofs.Common.{◌≡◌, refl, sym, List, ◌++◌, ℕ, zero, suc, ◌≤◌, arith}
 use Rattle.words.proofs.Laws.{either}
 use Rattle.rules.specs.declared.Frame.{Frame}
 use Rattle.rules.specs.Session.{View, view}
-use Rattle.rules.specs.Effect.{Effect, changed_all, marks_after, changing}
+use Rattle.rules.specs.Effect.{Effect, changed_all, changing}
 use Rattle.rules.specs.Telnet.{host_character, host_characters}
 use Rattle.rules.specs.Cursor.{cursor_guarded}
 use Rattle.rules.proofs.Characters.{changed_append}
-use Rattle.decide.specs.contracts.decision.Edit.{the_type}
 use Rattle.decide.specs.declared.decision.Edit.{Edit}
 use Rattle.decide.specs.declared.decision.Edit.TheVariants.{Nothing, Put, Erase, Shift, Repeat}
 use Rattle.decide.specs.Decision.{edited}

@@ -14,7 +14,7 @@ use crate::data::{obey_data, take_bytes};
 use crate::start::Start;
 use command::held::{held_of, hold_all, none};
 use command::number::X3;
-use decide::decision::{Decision, Edit, Say};
+use decide::decision::Decision;
 use decide::negotiate::negotiate;
 use decide::obey::decide_end;
 use local::message::read_byte;
@@ -52,13 +52,7 @@ fn decide_event(frame: Frame, attrs: &[u8], held: Held, event: Event) -> Decisio
     match event {
         Event::Negotiation { verb, option } => negotiate(frame, verb, option),
         Event::End(option) => decide_end(frame, attrs, held, option),
-        _ => Decision {
-            frame,
-            edit: Edit::Nothing,
-            say: Say::Silent,
-            format: None,
-            clear: false,
-        },
+        _ => Decision::quiet(frame),
     }
 }
 

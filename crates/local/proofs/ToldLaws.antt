@@ -1,9 +1,6 @@
 -- The end of a subnegotiation of another option leaves nothing of a message half read, and the PAD otherwise as it was.
-use Rattle.std.proofs.Common.{◌≡◌, refl, true, false, [], ◌∷◌}
+use Rattle.std.proofs.Common.{◌≡◌, refl, true, false}
 use borrow.Author.Tests.{not-true}
-use types.Run.{OneOf, miss}
-use denote.Enum.Declared.{tag_of}
-use Rattle.telnet.specs.contracts.Event.{the_type}
 use Rattle.telnet.specs.declared.Event.{Event}
 use Rattle.telnet.specs.declared.Event.TheVariants.{Nothing, Data, Negotiation, Begin, Sub, End, EndBare, Lost}
 use Rattle.words.proofs.Laws.{not_both}

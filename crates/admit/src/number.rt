@@ -4,7 +4,7 @@ ghost use Rattle.rules.specs.Refusal.{number_of, told_number};
 
 use rules::{Refusal, Verdict};
 
-// The table's number.
+// The table's number. A function and no `From`: the type belongs to `rules`, which has definitions and no functions.
 pub fn number_of(refusal: Refusal) -> u8
     ensures { result ≡ number_of refusal }
 {

@@ -95,7 +95,7 @@ pub(crate) const FN: u8 = 40;
 
 pub(crate) const ERROR: u8 = 41;
 
-// ERROR's numbers.
+// ERROR's numbers. A function and no `From`: the type belongs to `rules`, which has definitions and no functions.
 pub fn fault_number(fault: Fault) -> u8
     ensures { result ≡ fault_number fault }
 {

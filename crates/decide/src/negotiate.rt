@@ -18,7 +18,7 @@ fn answered(frame: Frame, verb: Verb, option: u8) -> Decision
     Decision::saying(frame, Say::Negotiation { verb, option })
 }
 
-// The options that the terminal has.
+// The options that the terminal has. A function and no `From`: the type belongs to `rules`. So too `key_of`.
 #[tactic(auto, unfolding(rules::specs::Telnet::option_of))]
 fn option_of(option: u8) -> Option<TelnetOption>
     ensures { result ≡ option_of option }

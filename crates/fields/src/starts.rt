@@ -16,7 +16,7 @@ fn starts_in_block(attrs: &[u8], from: usize, end: usize) -> u8
     count
 }
 
-// A field starts at the first cell, if there is one.
+// A field starts at the first cell, if there is one. By blocks, each with the cell before it: those are no chunks.
 #[tactic(auto, using(crate::proofs::CountLaws::first_starts, crate::proofs::CountLaws::starts_few))]
 pub(crate) fn count_starts(attrs: &[u8]) -> usize
     ensures { result ≡ starts_before attrs.now (length attrs.now) }

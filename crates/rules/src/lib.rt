@@ -9,7 +9,8 @@ use pad::parameter::Values;
 use screen::cell::Place;
 use telnet::Phase;
 
-// The first bytes of a subnegotiation after its option byte, and how many they are: the count stops at 6.
+// The first bytes of a subnegotiation after its option byte, and how many they are: the count stops at 6. An array with its count: the
+// library uses no heap, and refusal 4 (`session_ok`) tells a count above 6 from a sound one.
 #[derive(Clone, Copy, Debug, PartialEq, Eq)]
 pub struct Held {
     pub bytes: [u8; 6],
@@ -202,7 +203,8 @@ pub enum Fault {
     BadMap,
 }
 
-// A key by its meaning.
+// A key by its meaning. No Option: refusal 9 is one test among those of a key (`key_tests`), so that a key without meaning is one case
+// of each rule.
 #[derive(Clone, Copy, Debug, PartialEq, Eq)]
 pub enum Key {
     Typed(u8),

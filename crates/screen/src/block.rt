@@ -49,7 +49,7 @@ fn none_in_block(attrs: &[u8], target: Target, cell: usize) -> bool
     none
 }
 
-// A cell before `end` or there, up to which none is what is looked for.
+// A cell before `end` or there, up to which none is what is looked for. By blocks, each with the cell before it: those are no chunks.
 #[tactic(auto, using(crate::proofs::SkipLaws::none_there, crate::proofs::SkipLaws::none_then))]
 pub(crate) fn past(attrs: &[u8], target: Target, from: usize, end: usize) -> usize
     requires { (0 < from) × (from ≤ end) × (end ≤ length attrs.now) }

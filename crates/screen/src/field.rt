@@ -35,7 +35,8 @@ pub fn span_end(suppressed: bool, attrs: &[u8], cell: usize, stop: usize) -> usi
     field_end(attrs, cell).min(stop)
 }
 
-// Is some cell from `from` on guarded? A field is guarded as a whole, so one look at each is enough.
+// Is some cell from `from` on guarded? A field is guarded as a whole, so one look at each is enough: the step
+// is a field.
 #[tactic(auto, using(crate::proofs::FieldLaws::by_fields))]
 pub fn some_guarded(suppressed: bool, attrs: &[u8], from: usize) -> bool
     ensures { result ≡ some_in (guarded_at suppressed attrs.now) from (length attrs.now) }

@@ -142,7 +142,7 @@ impl<'a> Progress<'a> {
     }
 }
 
-// The counts of a whole stream.
+// The counts of a whole stream. A turn is as long as what stands there.
 #[tactic(auto, using(crate::proofs::Laws::counting_done))]
 pub fn tally_of(input: &[u8]) -> Tally
     ensures { result ≡ tally_of (events_of Rest input.now) }

@@ -1,4 +1,4 @@
-// The codes of the Telnet commands (RFC 854), by name.
+// The codes of the Telnet commands (RFC 854), by name: bytes of the stream. The four that an option follows are a `Verb` too.
 pub const SE: u8 = 240;
 
 pub const SB: u8 = 250;

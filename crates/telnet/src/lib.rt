@@ -74,7 +74,7 @@ pub enum Phase {
     InsideIac(u8),
 }
 
-// What a byte tells.
+// What a byte tells. No Option: each rule has `Nothing` as one case beside the others, and would match twice.
 #[derive(Clone, Copy, Debug, PartialEq, Eq)]
 pub enum Event {
     // nothing yet, or a command that does nothing

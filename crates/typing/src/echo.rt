@@ -12,7 +12,7 @@ use pad::parameter::{
     ECHO_MASK, EDITING_SIGNALS, LF_INSERTION, LF_ON_ECHO, LOCAL_ECHO, Values, has, value,
 };
 
-// What is echoed.
+// What is echoed. No Option: silence is one of the cases, and each use would match twice.
 #[derive(Clone, Copy, Debug, PartialEq, Eq)]
 pub enum Echo {
     Silence,

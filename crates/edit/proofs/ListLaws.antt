@@ -27,8 +27,8 @@ kept s k d v b h e = rw e (get_d-within s k 0 d h)
 
 module _ {test : ℕ → Bool} {v d i : ℕ} {s₀ s : List ℕ} (m : Storing test v d s₀ i s) where
   -- the store at i
-  pub storing_next : i < length s₀ → {w : ℕ} → w ≡ (if test i then v else get_or s i 0) → Storing test v d s₀ (i + 1) (set s i w)
-  storing_next h {w} e =
+  pub storing_either : i < length s₀ → {w : ℕ} → w ≡ (if test i then v else get_or s i 0) → Storing test v d s₀ (i + 1) (set s i w)
+  storing_either h {w} e =
       let here = e ∙ ap (λ r. if test i then v else r) (m.above i (omega arith) h ∙ get_d-within s₀ i 0 d h) in record {
         long = length-set s i w ∙ m.long;
         below = λ k a b. after_set s i w k _ (omega arith) (λ q. rw q here) (λ q. m.below k (omega arith) b);

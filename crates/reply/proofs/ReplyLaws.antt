@@ -49,7 +49,7 @@ wrote_emitted {buf} {at} ps room w =
     record { next = ap (λ (b : Buffer). b.next) e; stored = ap (λ (b : Buffer). b.bytes) e }
 
 -- where there is room, other pieces with the same bytes
-wrote_as : {buf : List ℕ} {at : ℕ} (ps qs : List (List ℕ)) {buf₁ : List ℕ} {at₁ : ℕ} → joined ps ≡ joined qs → Room buf at (joined qs)
+pub wrote_as : {buf : List ℕ} {at : ℕ} (ps qs : List (List ℕ)) {buf₁ : List ℕ} {at₁ : ℕ} → joined ps ≡ joined qs → Room buf at (joined qs)
     → Wrote buf at ps buf₁ at₁ → Wrote buf at qs buf₁ at₁
 wrote_as {buf} {at} ps qs e room w = wrote_by (whole w ∙ all_fit ps buf at (rw e room) ∙ rw e (sym (all_fit qs buf at room)))
 

@@ -1,5 +1,6 @@
 -- Laws of stretches: what the bytes up to the next IAC tell, read one after the other.
-use Rattle.std.proofs.Common.{ℕ, ◌+◌, ◌-◌, ◌≤◌, ◌<◌, add-zero, arith, ◌≡◌, refl, sym, ap, ◌∙◌, Bool, true, false, List, [], ◌∷◌, ◌++◌, map, append-nil, ltb, length, drop, get_or, length-drop, drop_of_length-le, get_or-drop, length-take-le, ltb-true, ltb-false, lt-ltb, le-ltb}
+use Rattle.std.proofs.Common.{ℕ, ◌+◌, ◌-◌, ◌≤◌, ◌<◌, add-zero, arith, ◌≡◌, refl, sym, ap, ◌∙◌, Bool, true, false, List, [], ◌∷◌, ◌++◌, map, append-nil, ltb, length, drop, get_or, length-drop, drop_of_length-le, get_or-drop, length-take-le, ltb-true, ltb-false, lt-ltb, le-ltb, not, ◌&&◌, eqb, drop-cons, ne_eqb, add-one, add-suc, suc-add}
+use borrow.Author.Tests.{not-true, eqb-false}
 use Rattle.telnet.specs.declared.Phase.{Phase}
 use Rattle.telnet.specs.declared.Phase.TheVariants.{Rest, Iac, Inside, InsideIac}
 use Rattle.telnet.specs.declared.Event.{Event}
@@ -11,6 +12,26 @@ use Rattle.telnet.proofs.Laws.{Reads, No255, phase_append, events_append, events
 use Rattle.telnet.proofs.Laws.{plain_read, plain_payload_read}
 use Rattle.telnet.proofs.BeforeLaws.{before}
 use Rattle.telnet.proofs.PartLaws.{part_one, part_then, part_rest}
+
+-- ---- where the first IAC stands, a step further
+
+end_skip : (s : List ℕ) (i : ℕ) → i < length s → (get_or s i 0 ≡ iac → ⊥) → data_end s i ≡ data_end s (i + 1)
+unfolding data_end before_iac
+end_skip s i w n = rw (drop-cons s i 0) (simp (ne_eqb _ _ n, add-one, add-suc, suc-add))
+
+end_next : (s : List ℕ) (from i : ℕ) → from + i < length s → (get_or s (from + i) 0 ≡ iac → ⊥)
+    → data_end s (from + i) ≡ data_end s (from + (i + 1))
+end_next s from i w n = let a : from + (i + 1) ≡ from + i + 1 = omega arith in rw a (end_skip s (from + i) w n)
+
+-- all eight are behind
+pub end_eight : (s : List ℕ) (at : ℕ) {n : ℕ} → data_end s at ≡ data_end s (at + n) → n ≡ 8 → data_end s at ≡ data_end s (at + 8)
+end_eight s at e q = rw q at e
+
+-- none of the bytes so far is IAC, and this one is not
+pub end_more : (s : List ℕ) (from i : ℕ) (all : Bool) → (all ≡ true → data_end s from ≡ data_end s (from + i)) → from + i < length s
+    → (all && not (eqb (get_or s (from + i) 0) iac)) ≡ true → data_end s from ≡ data_end s (from + (i + 1))
+end_more s from i true h w e = h refl ∙ end_next s from i w (eqb-false _ _ (not-true _ e))
+end_more s from i false h w e = let z : ◌≡◌ {A = ℕ} 0 1 = cc in absurd (omega arith)
 
 -- past the end there is none
 pub end_past : (s : List ℕ) (i : ℕ) → length s ≤ i → data_end s i ≡ i

@@ -1,5 +1,6 @@
 -- Laws of refusals: lists of tests, and the sizes.
-use Rattle.std.proofs.Common.{leb-true, ◌≡◌, refl, true, List, [], ◌∷◌, ◌++◌, ℕ, ◌*◌, ◌≤◌, leb, Ok, Err}
+use Rattle.std.proofs.Common.{leb-true, ◌≡◌, refl, true, List, [], ◌∷◌, ◌++◌, ℕ, ◌*◌, ◌≤◌, leb, Ok, Err, min, max, ◌&&◌, arith, le-leb, leb-false}
+use borrow.Author.Tests.{lt-leb}
 use Rattle.words.specs.Words.{between}
 use Rattle.words.proofs.Laws.{true_or_false, and_left, and_right}
 use Rattle.screen.proofs.CellLaws.{cells_few}
@@ -33,3 +34,21 @@ bounds m n e =
 -- and the screen has few cells
 pub few : (m n : ℕ) → sizes_ok m n ≡ true → n * m ≤ 8448
 few m n e = let b = bounds m n e in cells_few b.0 b.1
+
+-- ---- the least and the greatest of two, against a bound
+
+pub least_above : (n a b : ℕ) → leb n (min a b) ≡ (leb n b && leb n a)
+least_above n a b =
+    true_or_false (leb n b)
+    (λ p. true_or_false (leb n a)
+    (λ q. rw (p, q) (le-leb n (min a b) (omega (arith, leb-true n b p, leb-true n a q))))
+    (λ q. rw (p, q) (lt-leb n (min a b) (omega (arith, leb-false n a q)))))
+    (λ p. rw p (lt-leb n (min a b) (omega (arith, leb-false n b p))))
+
+pub greatest_below : (n a b : ℕ) → leb (max a b) n ≡ (leb b n && leb a n)
+greatest_below n a b =
+    true_or_false (leb b n)
+    (λ p. true_or_false (leb a n)
+    (λ q. rw (p, q) (le-leb (max a b) n (omega (arith, leb-true b n p, leb-true a n q))))
+    (λ q. rw (p, q) (lt-leb (max a b) n (omega (arith, leb-false a n q)))))
+    (λ p. rw p (lt-leb (max a b) n (omega (arith, leb-false b n p))))

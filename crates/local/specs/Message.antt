@@ -11,7 +11,8 @@ use Rattle.rules.specs.declared.Pad.{Pad}
 use Rattle.rules.specs.Number.{x3_option}
 use Rattle.rules.specs.Pad.{counts, pad_after}
 use Rattle.rules.specs.Operation.{reader_after}
-use Rattle.reply.specs.Written.{Wrote}
+use Rattle.reply.specs.declared.Reply.{Reply}
+use Rattle.reply.specs.Written.{Puts}
 use Rattle.reply.specs.Pieces.{message_pieces}
 use Rattle.local.specs.declared.message.PadTurn.{PadTurn}
 
@@ -28,7 +29,7 @@ answer_pieces f p EndBare = []
 answer_pieces f p Lost = []
 
 -- the reader, the PAD and the reply after a byte
-pub record Reads (f : Frame) (r : Reader) (p : Pad) (b : ℕ) (reply : List ℕ) (at : ℕ) (t : PadTurn) (reply' : List ℕ) : Type 0 where
+pub record Reads (f : Frame) (r : Reader) (p : Pad) (b : ℕ) (reply : Reply) (t : PadTurn) (reply' : Reply) : Type 0 where
   pub reader : t.reader ≡ reader_after r b
   pub pad : t.pad ≡ pad_after f p (read_of r.phase b).event
-  pub answer : Wrote reply at (answer_pieces f p (read_of r.phase b).event) reply' t.written
+  pub answer : Puts reply (answer_pieces f p (read_of r.phase b).event) reply'

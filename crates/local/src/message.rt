@@ -4,13 +4,13 @@ ghost use Rattle.telnet.specs.Reader.{read_of};
 ghost use Rattle.pad.specs.Message.{ended};
 ghost use Rattle.rules.specs.Pad.{counts};
 ghost use Rattle.rules.specs.Operation.{reader_after};
-ghost use Rattle.reply.specs.Written.{Wrote};
+ghost use Rattle.reply.specs.Written.{Puts};
 ghost use Rattle.local.specs.Message.{answer_pieces, Reads};
 
 use crate::told::{is_counted, pad_told};
 use command::held::{cr_after, held_after};
 use pad::message::end;
-use reply::response::write_response;
+use reply::Reply;
 use rules::{Frame, Pad, Reader};
 use telnet::{Event, Step, read};
 
@@ -21,18 +21,16 @@ fn is_answered(frame: Frame, pad: Pad, option: u8) -> bool
     is_counted(frame, option) && end(pad.values, pad.message).asked
 }
 
-// RESPONSE-IS where it is asked for: the place after it.
-#[tactic(auto, using(reply::proofs::WriteLaws::wrote_none), unfolding(crate::specs::Message::answer_pieces))]
-fn answer(frame: Frame, pad: Pad, event: Event, reply: &mut [u8], at: usize) -> usize
-    ensures { Wrote reply.old at (answer_pieces frame pad event) reply.new result }
+// RESPONSE-IS where it is asked for.
+#[tactic(auto, using(reply::proofs::WriteLaws::puts_none), unfolding(crate::specs::Message::answer_pieces))]
+fn answer(frame: Frame, pad: Pad, event: Event, reply: &mut Reply<'_>)
+    ensures { Puts reply.old (answer_pieces frame pad event) reply.new }
 {
     let Event::End(option) = event else {
-        return at;
+        return;
     };
     if is_answered(frame, pad, option) {
-        write_response(pad.values, reply, at)
-    } else {
-        at
+        reply.respond(pad.values);
     }
 }
 
@@ -58,32 +56,24 @@ pub fn read_byte(reader: Reader, byte: u8) -> ByteRead
     }
 }
 
-// Where a byte leaves the PAD, and where the next reply goes.
+// Where a byte leaves the reader and the PAD.
 #[derive(Clone, Copy, Debug, PartialEq, Eq)]
 pub struct PadTurn {
     pub reader: Reader,
     pub pad: Pad,
-    pub written: usize,
 }
 
 // One byte of such a message.
-pub fn take_byte(
-    frame: Frame,
-    reader: Reader,
-    pad: Pad,
-    next: u8,
-    reply: &mut [u8],
-    at: usize,
-) -> PadTurn
-    ensures { Reads frame reader pad next reply.old at result reply.new }
+pub fn take_byte(frame: Frame, reader: Reader, pad: Pad, next: u8, reply: &mut Reply<'_>) -> PadTurn
+    ensures { Reads frame reader pad next reply.old result reply.new }
 {
     let ByteRead {
         event,
         reader: after,
     } = read_byte(reader, next);
+    answer(frame, pad, event, reply);
     PadTurn {
         reader: after,
         pad: pad_told(frame, pad, event),
-        written: answer(frame, pad, event, reply, at),
     }
 }

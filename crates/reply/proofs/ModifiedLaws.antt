@@ -4,8 +4,8 @@ use native.Mathlib.Nat.{sub-zero}
 use Rattle.screen.specs.Fields.{opens_at, first_from, field_end}
 use Rattle.screen.proofs.WordLaws.{first_passes, first_past, first_above, first_below}
 use Rattle.screen.proofs.FieldLaws.{end_gt, end_le, none_opens}
-use Rattle.reply.specs.declared.bytes.Reply.{Reply}
-use Rattle.reply.specs.Inner.Puts.{Puts}
+use Rattle.reply.specs.declared.Reply.{Reply}
+use Rattle.reply.specs.Written.{Puts}
 use Rattle.reply.specs.Pieces.{marked_pieces, modified_pieces}
 use Rattle.reply.proofs.WriteLaws.{Writing, writing_start, writing_more, writing_all}
 

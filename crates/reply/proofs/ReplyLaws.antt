@@ -20,11 +20,10 @@ use Rattle.rules.specs.Subcommand.{preface_bytes, field_texts, without_first, mo
 use Rattle.decide.specs.declared.decision.Say.{Say}
 use Rattle.decide.specs.declared.decision.Say.TheVariants.{Silent, Negotiation, Two, Three, Preface, Text, Fields, Modified}
 use Rattle.decide.specs.Decision.{parts_of, Sendable}
-use Rattle.reply.specs.Written.{Buffer, buffer, wrote_all, Wrote}
+use Rattle.reply.specs.Written.{Buffer, buffer, wrote_all, Wrote, Puts}
 use Rattle.rules.specs.Number.{det_option, x3_option, data_transmit, field_separator}
 use Rattle.reply.specs.Pieces.{doubled_pieces, message_pieces, preface_pieces, text_piece, field_pieces, modified_pieces, say_pieces}
-use Rattle.reply.specs.declared.bytes.Reply.{Reply}
-use Rattle.reply.specs.Inner.Puts.{Puts}
+use Rattle.reply.specs.declared.Reply.{Reply}
 use Rattle.reply.specs.Inner.Reply.{Sayable}
 use Rattle.reply.proofs.WriteLaws.{whole, wrote_by}
 

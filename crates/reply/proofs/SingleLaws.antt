@@ -5,8 +5,8 @@ use Rattle.screen.specs.Attributes.{protection, protected_at}
 use Rattle.screen.specs.Fields.{starts_at, opens_at, field_end}
 use Rattle.words.proofs.Laws.{less_or_not, not_both, and_left, get_d-within}
 use Rattle.screen.proofs.WordLaws.{first_hit}
-use Rattle.reply.specs.declared.bytes.Reply.{Reply}
-use Rattle.reply.specs.Inner.Puts.{Puts}
+use Rattle.reply.specs.declared.Reply.{Reply}
+use Rattle.reply.specs.Written.{Puts}
 use Rattle.reply.specs.Pieces.{doubled_pieces, text_piece, separator_pieces, field_pieces}
 use Rattle.reply.specs.Inner.Single.{single_pieces, EachOpens, Singles}
 use Rattle.reply.proofs.WriteLaws.{Writing, writing_start, writing_more, writing_length, writing_all, WritingTo}

@@ -1,5 +1,5 @@
 -- Laws of pieces written one after the other: none of them asks that the pieces fit.
-use Rattle.std.proofs.Common.{◌≡◌, refl, sym, ap, ◌∙◌, Bool, true, false, List, [], ◌∷◌, ◌++◌, append_assoc, append-nil, ℕ, zero, suc, ◌+◌, ◌-◌, ◌≤◌, ◌<◌, add-zero, add-one, arith, le-leb, leb-true, leb, length, drop, get_or, drop_of_length-le, take_all, drop-cons}
+use Rattle.std.proofs.Common.{◌≡◌, refl, sym, ap, ◌∙◌, Bool, true, false, List, [], ◌∷◌, ◌++◌, append_assoc, append-nil, ℕ, zero, suc, ◌+◌, ◌-◌, ◌≤◌, ◌<◌, add-zero, add-one, arith, leb-true, leb, length, drop, get_or, drop_of_length-le, drop-cons}
 use native.Mathlib.Nat.{sub-zero}
 use lib.Seq.{sets, sets-eq, length-sets}
 use Rattle.screen.specs.Fields.{opens_at, first_from, field_end}
@@ -9,9 +9,8 @@ use Rattle.screen.proofs.WordLaws.{first_passes, first_past, first_above, first_
 use Rattle.screen.proofs.FieldLaws.{end_gt, end_le, none_opens}
 use Rattle.edit.proofs.EditLaws.{text_length}
 use Rattle.edit.proofs.EditLaws.{copied_whole}
-use Rattle.reply.specs.Written.{Buffer, buffer, wrote_one, wrote_all, Wrote}
-use Rattle.reply.specs.declared.bytes.Reply.{Reply}
-use Rattle.reply.specs.Inner.Puts.{Puts}
+use Rattle.reply.specs.Written.{Buffer, buffer, wrote_one, wrote_all, Wrote, Puts}
+use Rattle.reply.specs.declared.Reply.{Reply}
 use Rattle.reply.specs.Pieces.{doubled_pieces, text_piece, separator_pieces, field_pieces}
 
 -- the buffer and the next place at once

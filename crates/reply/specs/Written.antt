@@ -1,6 +1,7 @@
 -- Replies written piece by piece from a place on. A piece that does not fit is left out, and changes nothing.
 use Rattle.std.specs.Prelude.{◌≡◌, List, [], ◌∷◌, ℕ, ◌+◌, leb, length, if◌then◌else◌}
 use Rattle.std.proofs.lemmas.List.Edits.{sets}
+use Rattle.reply.specs.declared.Reply.{Reply}
 
 -- a lent buffer, and the place in it that is written next
 pub record Buffer : Type 0 where
@@ -23,3 +24,8 @@ wrote_all b (p ∷ ps) = wrote_all (wrote_one b p) ps
 pub record Wrote (buf : List ℕ) (at : ℕ) (pieces : List (List ℕ)) (buf' : List ℕ) (at' : ℕ) : Type 0 where
   pub stored : buf' ≡ (wrote_all (buffer buf at) pieces).bytes
   pub next : at' ≡ (wrote_all (buffer buf at) pieces).next
+
+-- From a reply, these pieces gave this reply: in the buffer that was lent, what it holds now, and the place after what was written.
+pub record Puts (r : Reply) (pieces : List (List ℕ)) (r' : Reply) : Type 0 where
+  pub same_buffer : r'.buffer.ghost_name ≡ r.buffer.ghost_name
+  pub wrote : Wrote r.buffer.now r.at pieces r'.buffer.now r'.at

@@ -1,26 +1,13 @@
-// The reply, and bytes into it, as they are and as a payload.
-ghost use Rattle.std.specs.Prelude.{◌≡◌, [], ◌∷◌, ◌-◌, length};
+// Bytes into the reply, as they are and as a payload.
+ghost use Rattle.std.specs.Prelude.{[], ◌∷◌};
 ghost use Rattle.reply.specs.Pieces.{text_piece, doubled_pieces};
-ghost use Rattle.reply.specs.Inner.Puts.{Puts};
+ghost use Rattle.reply.specs.Written.{Puts};
 
+use crate::Reply;
 use edit::text::copy_text;
 use telnet::code::IAC;
 
-// The lent buffer, and the place in it that is written next. A piece that does not fit is left out.
-#[derive(Drop)]
-pub(crate) struct Reply<'a> {
-    pub(crate) buffer: &'a mut [u8],
-    pub(crate) at: usize,
-}
-
 impl Reply<'_> {
-    // How many bytes there is room for.
-    pub(crate) fn room(&self) -> usize
-        ensures { result ≡ length self.now.buffer.now - self.now.at }
-    {
-        self.buffer.len().saturating_sub(self.at)
-    }
-
     // The text of a range of cells.
     pub(crate) fn put_range(&mut self, chars: &[u8], from: usize, end: usize)
         ensures { Puts self.old (text_piece from end chars.now ∷ []) self.new }

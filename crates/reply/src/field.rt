@@ -4,11 +4,10 @@ ghost use Rattle.screen.specs.Fields.{opens_at, first_from};
 ghost use Rattle.rules.specs.Number.{field_separator};
 ghost use Rattle.rules.specs.Edition.{code_for};
 ghost use Rattle.reply.specs.Pieces.{text_piece, separator_pieces, field_pieces};
-ghost use Rattle.reply.specs.Inner.Puts.{Puts};
+ghost use Rattle.reply.specs.Written.{Puts};
 
-use crate::Screen;
-use crate::bytes::Reply;
 use crate::single::are_singles;
+use crate::{Reply, Screen};
 use command::number::DET;
 use command::sent::{self, Sent};
 use rules::Edition;

@@ -1,11 +1,10 @@
-// Replies, written into the lent buffer from a place on. Each function returns the place after what it wrote. A piece that does not
-// fit is left out: nothing is asked of the caller.
+// Replies, written into the lent buffer from a place on. A piece that does not fit is left out: nothing is asked of the caller.
 #![tactic(auto)]
 
-ghost use Rattle.reply.specs.Written.{Wrote};
+ghost use Rattle.std.specs.Prelude.{◌≡◌, ◌-◌, length};
 ghost use Rattle.reply.specs.Pieces.{say_pieces};
+ghost use Rattle.reply.specs.Written.{Puts};
 
-use crate::bytes::Reply;
 use command::number::DET;
 use decide::decision::Say;
 use rules::Edition;
@@ -14,47 +13,54 @@ mod bytes;
 mod field;
 mod message;
 mod modified;
-pub mod response;
+mod response;
 mod single;
 mod transmission;
 
 // The lent screen buffers.
 #[derive(Clone, Copy)]
-struct Screen<'a> {
-    chars: &'a [u8],
-    attrs: &'a [u8],
-    marks: &'a [u8],
+pub struct Screen<'a> {
+    pub chars: &'a [u8],
+    pub attrs: &'a [u8],
+    pub marks: &'a [u8],
 }
 
-// What is said, with the codes of an edition, written from the characters and the marks as they are.
-#[tactic(auto, using(crate::proofs::WriteLaws::wrote_none))]
-pub fn write_reply(
-    edition: Edition,
-    say: Say,
-    chars: &[u8],
-    attrs: &[u8],
-    marks: &[u8],
-    reply: &mut [u8],
-    at: usize,
-) -> usize
-    ensures { Wrote reply.old at
-        (say_pieces edition chars.now attrs.now marks.now say) reply.new result }
-{
-    let screen = Screen {
-        chars,
-        attrs,
-        marks,
-    };
-    let mut said = Reply { buffer: reply, at };
-    match say {
-        Say::Silent => {}
-        Say::Negotiation { verb, option } => said.put_negotiation(verb, option),
-        Say::Two { code, a } => said.put_message(DET, &[code, a]),
-        Say::Three { code, a, b } => said.put_message(DET, &[code, a, b]),
-        Say::Preface(place) => said.put_preface(edition, place),
-        Say::Text { place, from, end } => said.put_text(edition, place, chars, from, end),
-        Say::Fields(place) => said.put_form(edition, place, screen),
-        Say::Modified { width } => said.put_modified(edition, width, screen),
+// The lent buffer, and the place in it that is written next.
+#[derive(Drop)]
+pub struct Reply<'a> {
+    pub buffer: &'a mut [u8],
+    pub at: usize,
+}
+
+impl Reply<'_> {
+    // How many bytes there is room for.
+    pub fn room(&self) -> usize
+        ensures { result ≡ length self.now.buffer.now - self.now.at }
+    {
+        self.buffer.len().saturating_sub(self.at)
     }
-    said.at
+
+    // What is said, with the codes of an edition, written from the characters and the marks as they are.
+    #[tactic(auto, using(crate::proofs::WriteLaws::puts_none))]
+    pub fn say(&mut self, edition: Edition, say: Say, screen: Screen<'_>)
+        ensures { Puts self.old
+            (say_pieces edition screen.entry.chars.now screen.entry.attrs.now screen.entry.marks.now say) self.new }
+    {
+        match say {
+            Say::Silent => {}
+            Say::Negotiation { verb, option } => self.put_negotiation(verb, option),
+            Say::Two { code, a } => self.put_message(DET, &[code, a]),
+            Say::Three { code, a, b } => self.put_message(DET, &[code, a, b]),
+            Say::Preface(place) => self.put_preface(edition, place),
+            Say::Text { place, from, end } => self.put_text(
+                edition,
+                place,
+                screen.chars,
+                from,
+                end,
+            ),
+            Say::Fields(place) => self.put_form(edition, place, screen),
+            Say::Modified { width } => self.put_modified(edition, width, screen),
+        }
+    }
 }

@@ -2,9 +2,9 @@
 ghost use Rattle.std.specs.Prelude.{[], ◌∷◌};
 ghost use Rattle.telnet.specs.Writer.{negotiation};
 ghost use Rattle.reply.specs.Pieces.{message_pieces};
-ghost use Rattle.reply.specs.Inner.Puts.{Puts};
+ghost use Rattle.reply.specs.Written.{Puts};
 
-use crate::bytes::Reply;
+use crate::Reply;
 use telnet::Verb;
 use telnet::code::{IAC, SB, SE};
 

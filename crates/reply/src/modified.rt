@@ -3,11 +3,10 @@ ghost use Rattle.std.specs.Prelude.{length};
 ghost use Rattle.rules.specs.Number.{data_transmit};
 ghost use Rattle.rules.specs.Edition.{code_for};
 ghost use Rattle.reply.specs.Pieces.{marked_pieces, modified_pieces};
-ghost use Rattle.reply.specs.Inner.Puts.{Puts};
+ghost use Rattle.reply.specs.Written.{Puts};
 
-use crate::Screen;
-use crate::bytes::Reply;
 use crate::field::field_from;
+use crate::{Reply, Screen};
 use edit::mark::some_marked;
 use rules::Edition;
 use screen::cell::place_of;

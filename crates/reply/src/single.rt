@@ -2,12 +2,11 @@
 ghost use Rattle.std.specs.Prelude.{◌≡◌, true, false, not, ◌&&◌, [], ◌∷◌, ◌++◌, ◌+◌, ◌≤◌, ◌<◌, eqb, length};
 ghost use Rattle.screen.specs.Attributes.{protection};
 ghost use Rattle.reply.specs.Pieces.{text_piece, separator_pieces};
-ghost use Rattle.reply.specs.Inner.Puts.{Puts};
+ghost use Rattle.reply.specs.Written.{Puts};
 ghost use Rattle.reply.specs.Inner.Single.{single_pieces, EachOpens, Singles};
 
-use crate::Screen;
-use crate::bytes::Reply;
 use crate::field::Separator;
+use crate::{Reply, Screen};
 use command::number::DET;
 use screen::protection::Protection;
 use telnet::code::{IAC, SB, SE};

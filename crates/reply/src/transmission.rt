@@ -3,11 +3,10 @@ ghost use Rattle.std.specs.Prelude.{true, [], ◌∷◌, ◌++◌, length};
 ghost use Rattle.rules.specs.Number.{data_transmit, field_separator};
 ghost use Rattle.rules.specs.Edition.{code_for};
 ghost use Rattle.reply.specs.Pieces.{preface_pieces, text_piece, field_pieces};
-ghost use Rattle.reply.specs.Inner.Puts.{Puts};
+ghost use Rattle.reply.specs.Written.{Puts};
 
-use crate::Screen;
-use crate::bytes::Reply;
 use crate::field::Separator;
+use crate::{Reply, Screen};
 use command::number::DET;
 use command::sent::{self, Sent};
 use rules::Edition;

@@ -1,5 +1,0 @@
-use Rattle.reply.proofs.WriteLaws.{puts_then}
-use Rattle.reply.proofs.bytes.Reply.put_form.Goals as goal
-
-pub returns : goal.returns
-returns c = rw (← c.of.ensures) (puts_then c.put_preface.ensures c.put_fields.ensures)

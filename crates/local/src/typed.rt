@@ -4,15 +4,13 @@ ghost use Rattle.words.specs.Stored.{Emitted};
 ghost use Rattle.rules.specs.Refusal.{verdict};
 ghost use Rattle.rules.specs.Telnet.{host_text};
 ghost use Rattle.rules.specs.Pad.{takes_key, line_tests, pad_typed, sent_at, echoed_at};
-ghost use Rattle.command.specs.Frame.{seen};
-ghost use Rattle.text.specs.Text.{Changes};
+ghost use Rattle.text.specs.Canvas.{shown, Draws};
 ghost use Rattle.pad.specs.Line.{text_of};
 ghost use Rattle.typing.specs.Echo.{bytes_of};
 
-use command::frame::moved;
 use pad::line::EditLine;
 use rules::{Frame, Pad, Refusal, Verdict};
-use text::data::take_data;
+use text::canvas::Canvas;
 use typing::echo::{Echo, echo_at, echo_length, echo_of};
 use typing::key::{line_after, overfills};
 use typing::out::write_out;
@@ -35,28 +33,21 @@ pub fn refuse_line(pad: Pad, code: u8) -> Verdict
     Ok(())
 }
 
-// An echo, written as host text: the frame after it.
-#[tactic(auto, using(text::proofs::TextLaws::texted_all))]
-fn write_echo(frame: Frame, echo: Echo, line: EditLine, chars: &mut [u8], attrs: &[u8]) -> Frame
-    ensures { Changes (host_text (seen frame attrs.now) (bytes_of echo (text_of line)))
-        chars.old attrs.now result chars.new }
+// An echo, written as host text.
+fn write_echo(canvas: &mut Canvas<'_>, echo: Echo, line: EditLine)
+    ensures { Draws (host_text (shown canvas.old) (bytes_of echo (text_of line))) canvas.old canvas.new }
 {
-    let mut cursor = frame.cursor;
     for i in 0..echo_length(echo, line) {
-        let next = echo_at(echo, line, i);
-        cursor = take_data(moved(frame, cursor), next, chars, attrs);
+        canvas.take_data(echo_at(echo, line, i));
     }
-    moved(frame, cursor)
 }
 
-// What is echoed at a key, written as host text: the frame after it.
+// What is echoed at a key, written as host text.
 #[tactic(auto, unfolding(typing::specs::Echo::echo_of))]
-pub fn echo_key(frame: Frame, pad: Pad, code: u8, chars: &mut [u8], attrs: &[u8]) -> Frame
-    ensures { Changes (host_text (seen frame attrs.now) (echoed_at pad code))
-        chars.old attrs.now result chars.new }
+pub fn echo_key(canvas: &mut Canvas<'_>, pad: Pad, code: u8)
+    ensures { Draws (host_text (shown canvas.old) (echoed_at pad code)) canvas.old canvas.new }
 {
-    let echo = echo_of(pad.values, pad.line, code);
-    write_echo(frame, echo, pad.line, chars, attrs)
+    write_echo(canvas, echo_of(pad.values, pad.line, code), pad.line);
 }
 
 // What goes out at a key, written from the reply's start: its length.

@@ -1,17 +1,16 @@
 -- Laws of host data: it changes nothing of a frame but its cursor, and what is done so far is what the bytes so far do.
 use Rattle.std.proofs.Common.{◌≡◌, refl, sym, ap, ◌∙◌, Bool, true, false, List, [], ◌∷◌, ◌++◌, append-nil, append_assoc, ℕ, ◌+◌, ◌≤◌, ◌<◌, add-one, eqb, length, get_or, take, take-suc, take_all}
 use Rattle.words.proofs.Laws.{either, true_or_false}
-use Rattle.screen.specs.declared.cell.Place.{Place}
 use Rattle.rules.specs.declared.Frame.{Frame}
-use Rattle.rules.specs.Session.{View, printable, placed, view, with_cursor}
-use Rattle.rules.specs.Effect.{Effect, changed_all, kept, changing, quiet}
+use Rattle.rules.specs.Session.{View, printable, view, with_cursor}
+use Rattle.rules.specs.Effect.{Effect, changed_all, kept, changing}
 use Rattle.rules.specs.Cursor.{cursor_guarded}
 use Rattle.rules.specs.Telnet.{host_character, host_data, host_text}
 use Rattle.rules.proofs.Characters.{changed_append}
+use Rattle.decide.proofs.WriteLaws.{control_is}
 use Rattle.text.specs.Text.{Changes, obeyed_bytes}
 use Rattle.text.specs.Inner.Text.{passed_at, control_at, Texted}
 use Rattle.text.proofs.JoinedLaws.{obeyed_next, obeyed_none, not_passed, printed_no_lf}
-use Rattle.text.proofs.WriteLaws.{unprinted}
 
 -- ---- one byte
 
@@ -106,13 +105,14 @@ module _ {attrs : List ℕ} {joins cr : Bool} {bytes : List ℕ} {f₀ : Frame} 
       texted_more h (not_passed joins cr bytes at (printed_no_lf (get_or bytes at 0) p)) (rw (printed (view f attrs) (get_or bytes at 0) p) one)
 
   -- no character
-  pub texted_control : {p : Place} → at < length bytes → printable (get_or bytes at 0) ≡ false
-      → control_at (view f attrs) joins cr bytes at ≡ quiet (view (placed f p) attrs)
-      → Texted attrs joins cr bytes f₀ chars₀ (at + 1) (placed f p) chars
-  texted_control h n e =
+  pub texted_control : {f' : Frame} {chars' : List ℕ} → at < length bytes → printable (get_or bytes at 0) ≡ false
+      → Changes (control_at (view f attrs) joins cr bytes at) chars attrs f' chars'
+      → Texted attrs joins cr bytes f₀ chars₀ (at + 1) f' chars'
+  unfolding changed_all
+  texted_control h n one =
       true_or_false (passed_at joins cr bytes at)
-      (λ t. rw (← ap (λ (e : Effect). e.view.frame) (rw t at e)) (texted_passed h t))
-      (λ t. texted_more h t (unprinted (view f attrs) (get_or bytes at 0) n (rw t at e)))
+      (λ t. let d = rw t at one in rw (d.frame, d.characters) (texted_passed h t))
+      (λ t. texted_more h t (rw (control_is (view f attrs) (get_or bytes at 0) n) (rw t at one)))
 
   -- all of them
   pub texted_all : length bytes ≤ at → Changes (host_text (view f₀ attrs) (obeyed_bytes joins cr bytes)) chars₀ attrs f chars

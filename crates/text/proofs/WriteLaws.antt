@@ -1,15 +1,14 @@
 -- Laws of writing a character: what its fate does to the characters.
-use Rattle.std.proofs.Common.{◌≡◌, refl, ◌∙◌, false, List, [], ◌∷◌, ℕ, set}
-use Rattle.rules.specs.declared.Frame.{Frame}
-use Rattle.rules.specs.Session.{View, printable, placed, view, cursor_cell, with_cursor}
+use Rattle.std.proofs.Common.{◌≡◌, refl, ◌∙◌, List, [], ◌∷◌, ℕ, set}
+use Rattle.rules.specs.Session.{View, placed, cursor_cell, with_cursor}
 use Rattle.rules.specs.Effect.{put, changed, changed_all, changing, quiet}
-use Rattle.rules.specs.Telnet.{host_character, host_data}
+use Rattle.rules.specs.Telnet.{host_character}
 use Rattle.decide.specs.declared.text.Writer.TheVariants.{Host}
 use Rattle.decide.specs.declared.text.Fate.TheVariants.{Written}
 use Rattle.decide.specs.declared.text.Writing.{Writing}
-use Rattle.decide.specs.Writing.{place_after, after_fate, control_of, Writes}
+use Rattle.decide.specs.Writing.{place_after, after_fate, Writes}
 use Rattle.decide.specs.Inner.Writing.{if_written}
-use Rattle.decide.proofs.WriteLaws.{by_fate, not_written, control_is}
+use Rattle.decide.proofs.WriteLaws.{by_fate, not_written}
 use Rattle.text.specs.Text.{Changes}
 
 module _ {v : View} {c : ℕ} {w : Writing} (one : Writes v Host c w) where
@@ -28,9 +27,3 @@ module _ {v : View} {c : ℕ} {w : Writing} (one : Writes v Host c w) where
       → Changes (host_character v c) chars v.attrs (placed v.frame w.cursor) chars'
   unfolding if_written after_fate changed changed_all
   written e p q = rw (host_by_fate, one.cursor, e) (record { frame = refl; characters = q ∙ rw p })
-
--- host data that is no character moves the cursor at most
-pub unprinted : (v : View) {f : Frame} {chars : List ℕ} (b : ℕ) → printable b ≡ false → control_of v b ≡ quiet (view f v.attrs)
-    → Changes (host_data v b) chars v.attrs f chars
-unfolding changed_all
-unprinted v b e q = rw (control_is _ _ e ∙ q) (record { frame = refl; characters = refl })

@@ -1,24 +1,23 @@
-// Host data: characters are written into their cells, and the cursor moves. It changes nothing else of a frame: the functions that take it
-// in return the cursor, so that their cost is not the frame's size.
-ghost use Rattle.std.specs.Prelude.{◌≡◌, List, ℕ, ◌+◌, ◌-◌, ◌≤◌, ◌<◌, length, set};
+// Host data: characters are written into their cells, and the cursor moves. It changes nothing else of a canvas.
+ghost use Rattle.std.specs.Prelude.{◌≡◌, ◌+◌, ◌-◌, ◌≤◌, ◌<◌, length, set};
 ghost use Rattle.screen.specs.Cells.{place};
-ghost use Rattle.rules.specs.Session.{printable, placed, view};
-ghost use Rattle.rules.specs.Effect.{quiet};
+ghost use Rattle.rules.specs.Session.{printable, placed};
 ghost use Rattle.rules.specs.Telnet.{host_character, host_data, host_text};
-ghost use Rattle.command.specs.Frame.{seen};
-ghost use Rattle.text.specs.Text.{Changes, obeyed_bytes};
-ghost use Rattle.text.specs.Inner.Text.{control_at, TextStep};
+ghost use Rattle.text.specs.Text.{obeyed_bytes};
+ghost use Rattle.text.specs.Canvas.{shown, Draws};
+ghost use Rattle.text.specs.Inner.Text.{control_at};
+ghost use Rattle.text.specs.Inner.Canvas.{at_place, DrawStep};
 ghost use Rattle.text.specs.Inner.Plain.{Each};
 
+use crate::canvas::Canvas;
 use crate::joined::is_joined;
-use crate::plain::{character_at, count_characters, last_counts, open_run};
+use crate::plain::{character_at, count_characters};
 use command::character::is_printable;
-use command::frame::{cursor_cell, moved};
+use command::frame::cursor_cell;
 use decide::text::{Fate, control, write_host};
 use edit::text::copy_text;
 use pad::ascii::LF;
-use rules::Frame;
-use screen::cell::{Column, Place};
+use screen::cell::Column;
 
 // A cell takes a character, where there is such a cell.
 pub fn set_cell(chars: &mut [u8], cell: usize, byte: u8)
@@ -29,118 +28,91 @@ pub fn set_cell(chars: &mut [u8], cell: usize, byte: u8)
     }
 }
 
-// One character from the host: the cursor after it.
-pub fn put_character(frame: Frame, byte: u8, chars: &mut [u8], attrs: &[u8]) -> Place
-    ensures { Changes (host_character (seen frame attrs.now) byte)
-        chars.old attrs.now (placed frame result) chars.new }
-{
-    let writing = write_host(frame, attrs, byte);
-    let Fate::Written = writing.fate else {
-        return frame.cursor;
-    };
-    set_cell(chars, cursor_cell(frame), byte);
-    writing.cursor
-}
-
-// One byte of host data: the cursor after it.
-#[tactic(auto, unfolding(rules::specs::Telnet::host_data))]
-pub fn take_data(frame: Frame, byte: u8, chars: &mut [u8], attrs: &[u8]) -> Place
-    ensures { Changes (host_data (seen frame attrs.now) byte)
-        chars.old attrs.now (placed frame result) chars.new }
-{
-    if is_printable(byte) {
-        return put_character(frame, byte, chars, attrs);
+impl Canvas<'_> {
+    // One character from the host.
+    pub fn put_character(&mut self, byte: u8)
+        ensures { Draws (host_character (shown self.old) byte) self.old self.new }
+    {
+        let writing = write_host(self.frame, self.attrs, byte);
+        let Fate::Written = writing.fate else {
+            return;
+        };
+        set_cell(self.chars, cursor_cell(self.frame), byte);
+        self.frame.cursor = writing.cursor;
     }
-    control(frame, byte)
-}
 
-// The cursor so many cells further on its line.
-fn gone_right(frame: Frame, count: usize) -> Place
-    requires { frame.cursor.x.0 + count < frame.width }
-    ensures { result ≡ place (frame.cursor.x.0 + count) frame.cursor.y.0 }
-{
-    Place {
-        x: Column(frame.cursor.x.0 + count as u8),
-        ..frame.cursor
-    }
-}
-
-// Characters that stand in a row: the cursor after them. As many as can go into their cells by one copy.
-fn put_text(
-    frame: Frame,
-    bytes: &[u8],
-    from: usize,
-    end: usize,
-    chars: &mut [u8],
-    attrs: &[u8],
-) -> Place
-    requires { (from ≤ end) × (end ≤ length bytes.now) × Each printable bytes.now from (end - from) }
-    ensures { TextStep attrs.now bytes.now from frame chars.old
-        end (placed frame result) chars.new }
-{
-    let mut cursor = frame.cursor;
-    let mut at = from;
-    while at < end {
-        let now = moved(frame, cursor);
-        let count = open_run(now, attrs, chars.len(), end - at);
-        if count == 0 {
-            let next = last_counts(now, attrs, at, end);
-            cursor = put_character(now, bytes[next - 1], chars, attrs);
-            at = next;
-            continue;
+    // One byte of host data.
+    #[tactic(auto, unfolding(rules::specs::Telnet::host_data))]
+    pub fn take_data(&mut self, byte: u8)
+        ensures { Draws (host_data (shown self.old) byte) self.old self.new }
+    {
+        if is_printable(byte) {
+            return self.put_character(byte);
         }
-        copy_text(bytes, chars, at, at + count, cursor_cell(now));
-        cursor = gone_right(now, count);
-        at += count;
+        self.frame.cursor = control(self.frame, byte);
     }
-    cursor
-}
 
-// What is no character, at a place of the data: the cursor after it. No byte but an LF asks whether it is passed over.
-fn obey_control(frame: Frame, joins: bool, cr: bool, bytes: &[u8], at: usize) -> Place
-    requires { at < length bytes.now }
-    ensures { (attrs : List ℕ)
-        → control_at (view frame attrs) joins cr bytes.now at ≡ quiet (view (placed frame result) attrs) }
-{
-    let byte = bytes[at];
-    if byte == LF && is_joined(joins, cr, bytes, at) {
-        return frame.cursor;
+    // The cursor goes so many cells further on its line.
+    fn go_right(&mut self, count: usize)
+        requires { self.old.frame.cursor.x.0 + count < self.old.frame.width }
+        ensures { self.new ≡ at_place self.old (place (self.old.frame.cursor.x.0 + count) self.old.frame.cursor.y.0) }
+    {
+        self.frame.cursor.x = Column(self.frame.cursor.x.0 + count as u8);
     }
-    control(frame, byte)
-}
 
-// Data: the frame after it. It does what its bytes do one after the other. Where `joins`, an LF right after a CR is passed over, and `cr`
-// tells whether a CR came last before the first byte. One character alone is not worth a copy.
-#[tactic(auto, using(crate::proofs::PlainLaws::each_row))]
-pub fn host_text(
-    frame: Frame,
-    joins: bool,
-    cr: bool,
-    bytes: &[u8],
-    chars: &mut [u8],
-    attrs: &[u8],
-) -> Frame
-    ensures { Changes (host_text (seen frame attrs.now) (obeyed_bytes joins cr bytes.now))
-        chars.old attrs.now result chars.new }
-{
-    let mut cursor = frame.cursor;
-    let mut at = 0;
-    while at < bytes.len() {
+    // Characters that stand in a row. As many as can go into their cells by one copy.
+    fn put_text(&mut self, bytes: &[u8], from: usize, end: usize)
+        requires { (from ≤ end) × (end ≤ length bytes.now) × Each printable bytes.now from (end - from) }
+        ensures { DrawStep bytes.now from self.old end self.new }
+    {
+        let mut at = from;
+        while at < end {
+            let count = self.open_run(end - at);
+            if count == 0 {
+                at = self.last_counts(at, end);
+                self.put_character(bytes[at - 1]);
+                continue;
+            }
+            copy_text(bytes, self.chars, at, at + count, cursor_cell(self.frame));
+            self.go_right(count);
+            at += count;
+        }
+    }
+
+    // What is no character, at a place of the data. No byte but an LF asks whether it is passed over.
+    fn obey_control(&mut self, joins: bool, cr: bool, bytes: &[u8], at: usize)
+        requires { at < length bytes.now }
+        ensures { Draws (control_at (shown self.old) joins cr bytes.now at) self.old self.new }
+    {
         let byte = bytes[at];
-        let now = moved(frame, cursor);
-        if !is_printable(byte) {
-            cursor = obey_control(now, joins, cr, bytes, at);
-            at += 1;
-            continue;
+        if byte == LF && is_joined(joins, cr, bytes, at) {
+            return;
         }
-        if !character_at(bytes, at + 1) {
-            cursor = put_character(now, byte, chars, attrs);
-            at += 1;
-            continue;
-        }
-        let end = at + 2 + count_characters(bytes, at + 2);
-        cursor = put_text(now, bytes, at, end, chars, attrs);
-        at = end;
+        self.frame.cursor = control(self.frame, byte);
     }
-    moved(frame, cursor)
+
+    // Data does what its bytes do one after the other. Where `joins`, an LF right after a CR is passed over, and `cr` tells whether a CR
+    // came last before the first byte. One character alone is not worth a copy.
+    #[tactic(auto, using(crate::proofs::PlainLaws::each_row))]
+    pub fn host_text(&mut self, joins: bool, cr: bool, bytes: &[u8])
+        ensures { Draws (host_text (shown self.old) (obeyed_bytes joins cr bytes.now)) self.old self.new }
+    {
+        let mut at = 0;
+        while at < bytes.len() {
+            let byte = bytes[at];
+            if !is_printable(byte) {
+                self.obey_control(joins, cr, bytes, at);
+                at += 1;
+                continue;
+            }
+            if !character_at(bytes, at + 1) {
+                self.put_character(byte);
+                at += 1;
+                continue;
+            }
+            let end = at + 2 + count_characters(bytes, at + 2);
+            self.put_text(bytes, at, end);
+            at = end;
+        }
+    }
 }

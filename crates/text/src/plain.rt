@@ -4,9 +4,10 @@ ghost use Rattle.std.specs.Prelude.{Bool, ℕ, ◌≡◌, true, ◌&&◌, ◌+�
 ghost use Rattle.screen.specs.Cells.{cell_of};
 ghost use Rattle.rules.specs.Session.{printable};
 ghost use Rattle.rules.specs.Cursor.{next_cell};
-ghost use Rattle.command.specs.Frame.{seen};
+ghost use Rattle.text.specs.Canvas.{shown};
 ghost use Rattle.text.specs.Inner.Plain.{unguarded, Each, OpenRun, LastCounts};
 
+use crate::canvas::Canvas;
 use command::character::is_printable;
 use command::frame::{cursor_cell, cursor_guarded};
 use rules::Frame;
@@ -120,17 +121,27 @@ fn room_on_line(frame: Frame, cells: usize) -> usize
     line.min(cells.saturating_sub(cursor_cell(frame)))
 }
 
-// How many characters, at most `most`, go into their cells by one copy: from the cursor on, before the last cell of its line, on a
-// screen of `cells` cells.
-pub(crate) fn open_run(frame: Frame, attrs: &[u8], cells: usize, most: usize) -> usize
-    ensures { OpenRun frame attrs.now cells most result }
+// How many of these cells.
+#[tactic(auto, using(crate::proofs::PlainLaws::each_within))]
+fn count_unguarded(attrs: &[u8], from: usize, end: usize) -> usize
+    requires { (from ≤ end) × (end ≤ length attrs.now) }
+    ensures { (result ≤ end - from) × Each unguarded attrs.now from result }
 {
-    let few = room_on_line(frame, cells.min(attrs.len())).min(most);
-    if frame.suppressed || few == 0 {
-        return few;
+    count::<Unguarded>(&attrs[from..end])
+}
+
+impl Canvas<'_> {
+    // How many characters, at most `most`, go into their cells by one copy: from the cursor on, before the last cell of its line.
+    pub(crate) fn open_run(&self, most: usize) -> usize
+        ensures { OpenRun self.now.frame self.now.attrs.now (length self.now.chars.now) most result }
+    {
+        let few = room_on_line(self.frame, self.chars.len().min(self.attrs.len())).min(most);
+        if self.frame.suppressed || few == 0 {
+            return few;
+        }
+        let cell = cursor_cell(self.frame);
+        count_unguarded(self.attrs, cell, cell + few)
     }
-    let cell = cursor_cell(frame);
-    count::<Unguarded>(&attrs[cell..cell + few])
 }
 
 // ---- where the cursor stays
@@ -143,15 +154,17 @@ fn at_last_cell(frame: Frame) -> bool
     frame.width as usize <= at.x.0 as usize + 1 && frame.height as usize <= at.y.0 as usize + 1
 }
 
-// Of the characters from `at` up to the answer only the last counts. On a guarded cell all are lost; at the screen's last cell each takes
-// the place of the one before.
-#[tactic(auto, using(crate::proofs::PlainLaws::stays_guarded, crate::proofs::PlainLaws::stays_last))]
-pub(crate) fn last_counts(frame: Frame, attrs: &[u8], at: usize, end: usize) -> usize
-    requires { at < end }
-    ensures { LastCounts (seen frame attrs.now) at end result }
-{
-    if cursor_guarded(frame, attrs) || at_last_cell(frame) {
-        return end;
+impl Canvas<'_> {
+    // Of the characters from `at` up to the answer only the last counts. On a guarded cell all are lost; at the screen's last cell each
+    // takes the place of the one before.
+    #[tactic(auto, using(crate::proofs::PlainLaws::stays_guarded, crate::proofs::PlainLaws::stays_last))]
+    pub(crate) fn last_counts(&self, at: usize, end: usize) -> usize
+        requires { at < end }
+        ensures { LastCounts (shown self.now) at end result }
+    {
+        if cursor_guarded(self.frame, self.attrs) || at_last_cell(self.frame) {
+            return end;
+        }
+        at + 1
     }
-    at + 1
 }

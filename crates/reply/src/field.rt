@@ -72,7 +72,7 @@ impl Reply<'_> {
         self.put_range(chars, cell, end);
     }
 
-    // Every unprotected field, a separator between each two.
+    // Every unprotected field, a separator between each two. A step is a field, or 32 of one cell each.
     #[tactic(auto, using(crate::proofs::WriteLaws::to_further))]
     pub(crate) fn put_fields(&mut self, screen: Screen<'_>, separator: Separator)
         ensures { Puts self.old

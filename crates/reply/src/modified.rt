@@ -32,7 +32,7 @@ impl Reply<'_> {
         }
     }
 
-    // Every such field: no separators, and nothing at all where there is none.
+    // Every such field: no separators, and nothing at all where there is none. A step is a field.
     #[tactic(auto, using(crate::proofs::WriteLaws::to_further))]
     pub(crate) fn put_modified(&mut self, edition: Edition, width: u8, screen: Screen<'_>)
         ensures { Puts self.old

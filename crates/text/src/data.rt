@@ -60,7 +60,7 @@ impl Canvas<'_> {
         self.frame.cursor.x = Column(self.frame.cursor.x.0 + count as u8);
     }
 
-    // Characters that stand in a row. As many as can go into their cells by one copy.
+    // Characters that stand in a row. A step is as many as can go into their cells by one copy.
     fn put_text(&mut self, bytes: &[u8], from: usize, end: usize)
         requires { (from ≤ end) × (end ≤ length bytes.now) × Each printable bytes.now from (end - from) }
         ensures { DrawStep bytes.now from self.old end self.new }
@@ -92,7 +92,7 @@ impl Canvas<'_> {
     }
 
     // Data does what its bytes do one after the other. Where `joins`, an LF right after a CR is passed over, and `cr` tells whether a CR
-    // came last before the first byte. One character alone is not worth a copy.
+    // came last before the first byte. A step is a byte, or as many characters as stand in a row: one alone is not worth a copy.
     #[tactic(auto, using(crate::proofs::PlainLaws::each_row))]
     pub fn host_text(&mut self, joins: bool, cr: bool, bytes: &[u8])
         ensures { Draws (host_text (shown self.old) (obeyed_bytes joins cr bytes.now)) self.old self.new }

@@ -1,17 +1,30 @@
 -- Laws of changes: REPEAT is done one character at a time, and every other edit at once.
 use Rattle.std.proofs.Common.{◌≡◌, refl, sym, List, ◌++◌, ℕ, zero, suc, ◌≤◌, arith}
 use Rattle.words.proofs.Laws.{either}
+use Rattle.rules.specs.declared.Edition.{Edition}
 use Rattle.rules.specs.declared.Frame.{Frame}
-use Rattle.rules.specs.Session.{View, view}
-use Rattle.rules.specs.Effect.{Effect, changed_all, changing}
+use Rattle.rules.specs.Session.{Screen, View, view}
+use Rattle.rules.specs.Effect.{Effect, changed_all, changing, spelled_all}
 use Rattle.rules.specs.Telnet.{host_character, host_characters}
 use Rattle.rules.specs.Cursor.{cursor_guarded}
 use Rattle.rules.proofs.Characters.{changed_append}
+use Rattle.decide.specs.declared.decision.Say.{Say}
 use Rattle.decide.specs.declared.decision.Edit.{Edit}
 use Rattle.decide.specs.declared.decision.Edit.TheVariants.{Nothing, Put, Erase, Shift, Repeat}
-use Rattle.decide.specs.Decision.{edited}
+use Rattle.decide.specs.Decision.{edited, parts_of}
 use Rattle.decide.specs.Inner.Decision.{changes_of, marking_of, Once}
+use Rattle.reply.specs.declared.Reply.{Reply}
+use Rattle.reply.specs.Written.{Puts}
+use Rattle.reply.specs.Pieces.{say_pieces}
+use Rattle.reply.specs.Inner.Reply.{Sayable}
+use Rattle.reply.proofs.ReplyLaws.{said}
 use Rattle.text.specs.Text.{Changes}
+use Rattle.det.specs.Inner.Apply.{Emits}
+
+-- what can be said is put as its bytes
+pub puts_said : {e : Edition} {say : Say} {b : Screen} {r r' : Reply} → Sayable e say b r.buffer.now r.at
+    → Puts r (say_pieces e b.chars b.attrs b.marks say) r' → Emits r (spelled_all b (parts_of e b.attrs say)) r'
+puts_said s p = record { same_buffer = p.same_buffer; emitted = said s p.wrote }
 
 -- an edit that is done at once leaves the frame as it is
 pub changes_once : (edit : Edit) {f : Frame} {chars attrs chars' : List ℕ} → Once edit

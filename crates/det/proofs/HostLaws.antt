@@ -23,43 +23,42 @@ use Rattle.rules.proofs.Pads.{SoundPad}
 use Rattle.rules.proofs.Sound.{Sound, sound_running, passes}
 use Rattle.rules.proofs.Room.{room_byte}
 use Rattle.rules.proofs.Running.{running_append, silent_taken, taken_step}
-use Rattle.det.specs.declared.apply.Applied.{Applied}
+use Rattle.reply.specs.declared.Reply.{Reply}
 use Rattle.det.specs.declared.start.Start.{Start}
 use Rattle.det.specs.declared.take.Told.{Told}
 use Rattle.det.specs.declared.take.Turn.{Turn}
-use Rattle.words.specs.Stored.{Emitted}
-use Rattle.det.specs.Inner.Apply.{Applies, Answerable}
+use Rattle.det.specs.Inner.Apply.{Emits, Applies, Answerable}
 use Rattle.det.specs.Inner.Message.{in_message}
 use Rattle.det.specs.Inner.Take.{Accepts, fresh_with, AcceptsTurn, Taking, QuietRun, QuietTurns, TellsNext, effect_at, Turns, host_taken}
-use Rattle.words.proofs.StoredLaws.{emitted_none, emitted_length, emitted_then, emitted_whole}
-use Rattle.det.proofs.TakeLaws.{accepted, fits_worst, det_effect_lem, byte_answerable, byte_state, byte_replies}
+use Rattle.words.proofs.StoredLaws.{emitted_length, emitted_whole}
+use Rattle.det.proofs.TakeLaws.{emits_none, emits_then, accepted, fits_worst, det_effect_lem, byte_answerable, byte_state, byte_replies}
 
 -- ---- none, and some after others
 
-pub taking_none : {s : State} {input : List ℕ} {from : ℕ} {reply : List ℕ} {at : ℕ} → from ≤ length input → at ≤ length reply
-    → Taking s input from reply at s from reply at
+pub taking_none : {s : State} {input : List ℕ} {from : ℕ} {r : Reply} → from ≤ length input → r.at ≤ length r.buffer.now
+    → Taking s input from r s from r
 unfolding running
-taking_none {from = from} h r = record {
+taking_none {from = from} h k = record {
   onward = omega arith;
   within = h;
-  room = r;
+  room = k;
   state = rw part_none;
-  replies = rw part_none emitted_none;
+  replies = rw part_none emits_none;
   count = let none : from - from ≡ 0 = omega arith in rw (none, zero-add);
 }
 
-module _ {s s₁ s₂ : State} {input : List ℕ} {a b c : ℕ} {reply reply₁ reply₂ : List ℕ} {at at₁ at₂ : ℕ}
-    (t : Taking s input a reply at s₁ b reply₁ at₁) (u : Taking s₁ input b reply₁ at₁ s₂ c reply₂ at₂) where
-  pub taking_then : Taking s input a reply at s₂ c reply₂ at₂
+module _ {s s₁ s₂ : State} {input : List ℕ} {a b c : ℕ} {r r₁ r₂ : Reply}
+    (t : Taking s input a r s₁ b r₁) (u : Taking s₁ input b r₁ s₂ c r₂) where
+  pub taking_then : Taking s input a r s₂ c r₂
   taking_then =
       let parts = part_then input t.onward u.onward in
-      let long = emitted_length t.replies in
+      let long = emitted_length t.replies.emitted in
       record {
         onward = omega (arith, t.onward, u.onward);
         within = u.within;
         room = omega (arith, u.room);
         state = u.state ∙ rw (parts, running_append, ← t.state);
-        replies = rw (parts, running_append, ← t.state) (emitted_then t.replies u.replies);
+        replies = rw (parts, running_append, ← t.state) (emits_then t.replies u.replies);
         count = omega (arith, t.count, rw long at u.count, t.onward, u.onward);
       }
 
@@ -69,50 +68,51 @@ running_one : (s : State) (b : ℕ) → running s (b ∷ []) ≡ host_byte s b
 unfolding running
 running_one s b = simp append-nil
 
-module _ (s : State) (reply : List ℕ) (at : ℕ) (a : Accepts s reply at) where
-  free : reply_room s.session.frame ≤ length reply - at
-  free = omega (arith, (accepted s reply at a).room, length-drop at reply)
+module _ (s : State) (r : Reply) (a : Accepts s r.buffer.now r.at) where
+  free : reply_room s.session.frame ≤ length r.buffer.now - r.at
+  free = omega (arith, (accepted s r.buffer.now r.at a).room, length-drop r.at r.buffer.now)
 
   module _ {input : List ℕ} {from : ℕ} where
-    pub taking_byte : from < length input → {s' : State} {reply' : List ℕ} {at' : ℕ} → s' ≡ (host_byte s (get_or input from 0)).state
-        → Emitted reply at (host_byte s (get_or input from 0)).replies reply' at' → Taking s input from reply at s' (from + 1) reply' at'
-    taking_byte h {at' = at'} after p =
+    pub taking_byte : from < length input → {s' : State} {r' : Reply} → s' ≡ (host_byte s (get_or input from 0)).state
+        → Emits r (host_byte s (get_or input from 0)).replies r' → Taking s input from r s' (from + 1) r'
+    taking_byte h {r' = r'} after p =
         let b = get_or input from 0 in
         let one = host_byte s b in
         let ran : running s (part from (from + 1) input) ≡ one = rw (part_one from input h) (running_one s b) in
-        let left : length reply - at' ≡ length reply - at - length one.replies = omega (arith, p.next) in
+        let left : length r.buffer.now - r'.at ≡ length r.buffer.now - r.at - length one.replies = omega (arith, p.emitted.next) in
         record {
           onward = omega arith;
           within = omega arith;
-          room = omega (arith, p.next, fits_worst s reply at a (room_byte (accepted s reply at a).sound b));
+          room = omega (arith, p.emitted.next, fits_worst s r.buffer.now r.at a (room_byte (accepted s r.buffer.now r.at a).sound b));
           state = after ∙ rw ran;
           replies = rw ran p;
-          count = rw (after, left) (omega (arith, taken_step s (length reply - at) input from h free));
+          count = rw (after, left) (omega (arith, taken_step s (length r.buffer.now - r.at) input from h free));
         }
 
-    module _ {s' : State} {end : ℕ} (r : QuietRun s input from s' end) where
+    module _ {s' : State} {end : ℕ} (q : QuietRun s input from s' end) where
       -- bytes that draw no reply
-      pub taking_run : Taking s input from reply at s' end reply at
+      pub taking_run : Taking s input from r s' end r
       taking_run =
-          let long = length-take-le (end - from) (drop from input) (omega (arith, length-drop from input, r.onward, r.within)) in
-          let quiet = ap (λ (q : Ran). length q.replies) r.ran in
-          let count = silent_taken (accepted s reply at a).sound (length reply - at) (part from end input) (drop end input) free quiet in
+          let long = length-take-le (end - from) (drop from input) (omega (arith, length-drop from input, q.onward, q.within)) in
+          let quiet = ap (λ (x : Ran). length x.replies) q.ran in
+          let sound = (accepted s r.buffer.now r.at a).sound in
+          let count = silent_taken sound (length r.buffer.now - r.at) (part from end input) (drop end input) free quiet in
           record {
-            onward = r.onward;
-            within = r.within;
-            room = omega (arith, fits_worst s reply at a {n = 0} (omega arith));
-            state = ap (λ (q : Ran). q.state) (sym r.ran);
-            replies = rw r.ran emitted_none;
-            count = omega (arith, rw (part_rest input r.onward, r.ran) at count, long);
+            onward = q.onward;
+            within = q.within;
+            room = omega (arith, fits_worst s r.buffer.now r.at a {n = 0} (omega arith));
+            state = ap (λ (x : Ran). x.state) (sym q.ran);
+            replies = rw q.ran emits_none;
+            count = omega (arith, rw (part_rest input q.onward, q.ran) at count, long);
           }
 
       -- leave room for one as they found it
-      pub accepts_run : Accepts s' reply at
+      pub accepts_run : Accepts s' r.buffer.now r.at
       accepts_run =
-          let k = accepted s reply at a in
-          let sound = rw r.ran at (sound_running k.sound (part from end input)) in
+          let k = accepted s r.buffer.now r.at a in
+          let sound = rw q.ran at (sound_running k.sound (part from end input)) in
           let z = sound.view.sizes in
-          passes sound (drop at reply) (rw (z.width, z.height) k.room)
+          passes sound (drop r.at r.buffer.now) (rw (z.width, z.height) k.room)
 
 -- ---- what is asked with a fresh PAD
 
@@ -136,46 +136,45 @@ accepts_turn f r p lf b reply at a =
 
 -- ---- what is told next
 
-module _ (h : Start) (b : Screen) (reply : List ℕ) {t : Told} (k : TellsNext h t) where
+module _ (h : Start) (b : Screen) (r : Reply) {t : Told} (k : TellsNext h t) where
   -- what is done on it
   abbrev tells_effect : Effect
   tells_effect = effect_at h t b.attrs
 
-  module _ (p : Pad) (prints : prints_lf p.values ≡ h.lf) (a : Accepts (state (session h.frame h.reader p) b) reply h.at) where
+  module _ (p : Pad) (prints : prints_lf p.values ≡ h.lf) (a : Accepts (state (session h.frame h.reader p) b) r.buffer.now r.at) where
     -- the state before the byte that tells it
     abbrev mid : State
     mid = state (session h.frame (record { phase = k.phase; held = t.held; cr = h.reader.cr }) (k.before p)) b
 
-    mid_accepts : Accepts mid reply h.at
-    mid_accepts = accepts_run (state (session h.frame h.reader p) b) reply h.at a (k.quiet h.frame p b)
+    mid_accepts : Accepts mid r.buffer.now r.at
+    mid_accepts = accepts_run (state (session h.frame h.reader p) b) r a (k.quiet h.frame p b)
 
     same_effect : happening (view h.frame b.attrs) mid.session.reader (k.before p) t.event ≡ tells_effect
     same_effect = det_effect_lem _ _ _ _ k.unasked ∙ rw (k.values p, prints)
 
     -- the reply to it can be written
-    answerable : Answerable tells_effect h.frame b reply h.at
-    answerable = rw (← same_effect) (byte_answerable mid reply h.at mid_accepts (get_or h.input.now k.last 0) k.step)
+    answerable : Answerable tells_effect h.frame b r.buffer.now r.at
+    answerable = rw (← same_effect) (byte_answerable mid r mid_accepts (get_or h.input.now k.last 0) k.step)
 
     -- and what is done is what the bytes do
-    taking : {done : Applied} {b' : Screen} {reply' : List ℕ} → Applies tells_effect b reply h.at done b' reply'
-        → Taking (state (session h.frame h.reader p) b) h.input.now h.from reply h.at
-        (state (session done.frame t.reader (pad_after h.frame p t.event)) b') t.next reply' done.written
-    taking {done} {b'} d =
+    taking : {f : Frame} {b' : Screen} {r' : Reply} → Applies tells_effect b r f b' r'
+        → Taking (state (session h.frame h.reader p) b) h.input.now h.from r
+        (state (session f t.reader (pad_after h.frame p t.event)) b') t.next r'
+    taking d =
         let byte = get_or h.input.now k.last 0 in
         let run = k.quiet h.frame p b in
         let does = rw (← same_effect) at d in
         let stands : t.reader ≡ record { phase = t.reader.phase; held = held_after t.held t.event; cr = cr_after h.reader.cr t.event } =
         λ i. record { phase = t.reader.phase; held = k.held i; cr = k.cr i } in
-        let ends = byte_state mid reply h.at mid_accepts byte k.step does stands in
-        let one = taking_byte mid reply h.at mid_accepts k.lies (rw (k.pad h.frame p) at ends) (byte_replies mid reply h.at mid_accepts byte k.step does) in
-        rw k.next (taking_then (taking_run (state (session h.frame h.reader p) b) reply h.at a run) one)
+        let ends = byte_state mid r mid_accepts byte k.step does stands in
+        let one = taking_byte mid r mid_accepts k.lies (rw (k.pad h.frame p) at ends) (byte_replies mid r mid_accepts byte k.step does) in
+        rw k.next (taking_then (taking_run (state (session h.frame h.reader p) b) r a run) one)
 
-  pub told_answerable : AcceptsTurn h b reply → Answerable tells_effect h.frame b reply h.at
+  pub told_answerable : AcceptsTurn h b r → Answerable tells_effect h.frame b r.buffer.now r.at
   told_answerable a = answerable (fresh_with h.lf) (fresh_prints h.lf) a
 
-  pub told_turns : {done : Applied} {b' : Screen} {reply' : List ℕ} → Applies tells_effect b reply h.at done b' reply'
-      → (h.from < t.next)
-      × Turns h b reply (record { frame = done.frame; reader = t.reader; event = t.event; end = t.next; written = done.written }) b' reply'
+  pub told_turns : {f : Frame} {b' : Screen} {r' : Reply} → Applies tells_effect b r f b' r'
+      → (h.from < t.next) × Turns h b r (record { frame = f; reader = t.reader; event = t.event; end = t.next }) b' r'
   told_turns d =
       (omega (arith, (k.quiet h.frame (fresh_with h.lf) b).onward, k.next), λ p prints a. taking p prints a d)
 
@@ -196,14 +195,14 @@ pad_by_x3 f g p (End option) h = rw h
 pad_by_x3 f g p EndBare h = refl
 pad_by_x3 f g p Lost h = refl
 
-module _ (h : Start) {b b₁ : Screen} {t : Turn} (reply : List ℕ) (q : QuietTurns h b t b₁) where
+module _ (h : Start) {b b₁ : Screen} {t : Turn} (r : Reply) (q : QuietTurns h b t b₁) where
   abbrev quiet : (p : Pad) → prints_lf p.values ≡ h.lf
       → QuietRun (state (session h.frame h.reader p) b) h.input.now h.from (state (session t.frame t.reader p) b₁) t.end
   quiet p prints = (q p prints).run
 
-  pub stretch_accepts : AcceptsTurn h b reply → Accepts (state (session t.frame t.reader (fresh_with h.lf)) b₁) reply h.at
+  pub stretch_accepts : AcceptsTurn h b r → Accepts (state (session t.frame t.reader (fresh_with h.lf)) b₁) r.buffer.now r.at
   stretch_accepts a =
-      accepts_run (state (session h.frame h.reader (fresh_with h.lf)) b) reply h.at a (quiet (fresh_with h.lf) (fresh_prints h.lf))
+      accepts_run (state (session h.frame h.reader (fresh_with h.lf)) b) r a (quiet (fresh_with h.lf) (fresh_prints h.lf))
 
   pub stretch_outside : in_message t.reader.phase ≡ false
   stretch_outside = (q (fresh_with h.lf) (fresh_prints h.lf)).stands
@@ -212,44 +211,45 @@ module _ (h : Start) {b b₁ : Screen} {t : Turn} (reply : List ℕ) (q : QuietT
   stretch_onward = (quiet (fresh_with h.lf) (fresh_prints h.lf)).onward
 
   -- alone
-  pub stretch_turns : Turns h b reply t b₁ reply
+  pub stretch_turns : Turns h b r t b₁ r
   unfolding pad_after
   stretch_turns p prints a =
-      rw ((q p prints).nothing, (q p prints).same) (taking_run (state (session h.frame h.reader p) b) reply h.at a (quiet p prints))
+      rw (q p prints).nothing (taking_run (state (session h.frame h.reader p) b) r a (quiet p prints))
 
   -- and more
-  pub then_turns : (u : Turn) {b₂ : Screen} {reply' : List ℕ}
-      → ((p : Pad) → prints_lf p.values ≡ h.lf → Accepts (state (session t.frame t.reader p) b₁) reply h.at
-      → Taking (state (session t.frame t.reader p) b₁) h.input.now t.end reply h.at
-      (state (session u.frame u.reader (pad_after t.frame p u.event)) b₂) u.end reply' u.written)
-      → Turns h b reply u b₂ reply'
+  pub then_turns : (u : Turn) {b₂ : Screen} {r' : Reply}
+      → ((p : Pad) → prints_lf p.values ≡ h.lf → Accepts (state (session t.frame t.reader p) b₁) r.buffer.now r.at
+      → Taking (state (session t.frame t.reader p) b₁) h.input.now t.end r
+      (state (session u.frame u.reader (pad_after t.frame p u.event)) b₂) u.end r')
+      → Turns h b r u b₂ r'
   then_turns u w p prints a =
       let run = quiet p prints in
-      let rest = w p prints (accepts_run (state (session h.frame h.reader p) b) reply h.at a run) in
-      taking_then (taking_run (state (session h.frame h.reader p) b) reply h.at a run)
+      let rest = w p prints (accepts_run (state (session h.frame h.reader p) b) r a run) in
+      taking_then (taking_run (state (session h.frame h.reader p) b) r a run)
       (rw (pad_by_x3 t.frame h.frame p u.event (q p prints).x3) at rest)
 
 -- ---- a whole call
 
-module _ {s₀ s : State} {input reply₀ reply : List ℕ} {taken written : ℕ} (t : Taking s₀ input 0 reply₀ 0 s taken reply written) where
-  taking_sound : Accepts s₀ reply₀ 0 → Sound s₀.session.frame.width s₀.session.frame.height s
-  taking_sound a = rw t.state (sound_running (accepted s₀ reply₀ 0 a).sound (part 0 taken input))
+module _ {s₀ s : State} {input : List ℕ} {r₀ r : Reply} {taken : ℕ} (t : Taking s₀ input 0 r₀ s taken r) where
+  taking_sound : Accepts s₀ r₀.buffer.now r₀.at → Sound s₀.session.frame.width s₀.session.frame.height s
+  taking_sound a = rw t.state (sound_running (accepted s₀ r₀.buffer.now r₀.at a).sound (part 0 taken input))
 
   -- the longest reply stays as long
-  pub taking_room : Accepts s₀ reply₀ 0 → reply_room s.session.frame ≡ reply_room s₀.session.frame
+  pub taking_room : Accepts s₀ r₀.buffer.now r₀.at → reply_room s.session.frame ≡ reply_room s₀.session.frame
   taking_room a = let z = (taking_sound a).view.sizes in rw (z.width, z.height)
 
   -- a byte is taken where there is room for a reply
-  pub taking_accepts : Accepts s₀ reply₀ 0 → reply_room s₀.session.frame ≤ length reply - written → Accepts s reply written
-  taking_accepts a r = passes (taking_sound a) (drop written reply) (rw (length-drop, taking_room a) r)
+  pub taking_accepts : Accepts s₀ r₀.buffer.now r₀.at → reply_room s₀.session.frame ≤ length r.buffer.now - r.at → Accepts s r.buffer.now r.at
+  taking_accepts a k = passes (taking_sound a) (drop r.at r.buffer.now) (rw (length-drop, taking_room a) k)
 
-  -- where no more is taken, all is done
-  pub taking_done : taken_of s (length reply₀ - written) (drop taken input) ≡ 0
-      → outcome (record { session = s.session; verdict = Ok tt; taken = taken; written = written }) s.screen reply
-      ≡ host_taken s₀ reply₀ input
-  taking_done e =
-      let all : taken_of s₀ (length reply₀) input ≡ taken = simp (sub-zero, e, add-zero) at t.count in
+  -- where no more is taken, all is done, and the lent buffer holds what the reply holds
+  pub taking_done : r₀.at ≡ 0 → {buf : List ℕ} → (r₀.buffer.ghost_name ≡ r.buffer.ghost_name → buf ≡ r.buffer.now)
+      → taken_of s (length r₀.buffer.now - r.at) (drop taken input) ≡ 0
+      → outcome (record { session = s.session; verdict = Ok tt; taken = taken; written = r.at }) s.screen buf
+      ≡ host_taken s₀ r₀.buffer.now input
+  taking_done z lent e =
+      let all : taken_of s₀ (length r₀.buffer.now) input ≡ taken = simp (z, sub-zero, e, add-zero) at t.count in
       let whole : part 0 taken input ≡ take taken input = rw sub-zero in
-      let count = t.replies.next in
-      let said = rw whole at (emitted_whole (rw (← count) t.room) t.replies) in
-      rw (all, t.state, count, zero-add, whole, said)
+      let emitted = rw (z, whole) at t.replies.emitted in
+      let said = emitted_whole (rw (← emitted.next) t.room) emitted in
+      rw (lent (sym t.replies.same_buffer), all, t.state, emitted.next, zero-add, whole, said)

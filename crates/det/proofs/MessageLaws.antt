@@ -25,6 +25,7 @@ use Rattle.reply.proofs.ReplyLaws.{wrote_emitted, responded}
 use Rattle.local.specs.declared.message.PadTurn.{PadTurn}
 use Rattle.local.specs.Message.{answer_pieces, Reads}
 use Rattle.det.specs.Inner.Message.{in_message}
+use Rattle.reply.specs.declared.Reply.{Reply}
 use Rattle.det.specs.Inner.Take.{Accepts, Taking}
 use Rattle.det.proofs.TakeLaws.{byte_answerable}
 use Rattle.det.proofs.HostLaws.{taking_byte}
@@ -89,10 +90,10 @@ answered v r p (End option) i b room w =
 answered v r p EndBare i b room w = absurd i
 answered v r p Lost i b room w = written b [] false room w
 
-module _ (f : Frame) (r : Reader) (p : Pad) (b : Screen) (reply : List ℕ) (at : ℕ) (a : Accepts (state (session f r p) b) reply at)
+module _ (f : Frame) (r : Reader) (p : Pad) (b : Screen) (reply : Reply) (a : Accepts (state (session f r p) b) reply.buffer.now reply.at)
     (i : in_message r.phase ≡ true) {input : List ℕ} {from : ℕ} (h : from < length input) where
-  pub message_taking : {t : PadTurn} {reply' : List ℕ} → Reads f r p (get_or input from 0) reply at t reply'
-      → Taking (state (session f r p) b) input from reply at (state (session f t.reader t.pad) b) (from + 1) reply' t.written
+  pub message_taking : {t : PadTurn} {reply' : Reply} → Reads f r p (get_or input from 0) reply t reply'
+      → Taking (state (session f r p) b) input from reply (state (session f t.reader t.pad) b) (from + 1) reply'
   unfolding host_byte changed_all marks_after
   message_taking {t} k =
       let byte = get_or input from 0 in
@@ -101,5 +102,6 @@ module _ (f : Frame) (r : Reader) (p : Pad) (b : Screen) (reply : List ℕ) (at 
       let v = view f b.attrs in
       let inside = told_in r.phase i byte in
       let same : state (session f t.reader t.pad) b ≡ (host_byte s byte).state = rw (k.reader, k.pad, says v r p told inside) in
-      let room = (byte_answerable s reply at a byte refl).room in
-      taking_byte s reply at a h same (answered v r p told inside b room k.answer)
+      let room = (byte_answerable s reply a byte refl).room in
+      let said = answered v r p told inside b room k.answer.wrote in
+      taking_byte s reply a h same (record { same_buffer = k.answer.same_buffer; emitted = said })

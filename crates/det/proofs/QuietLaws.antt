@@ -149,9 +149,8 @@ module _ (input : List ℕ) (from : ℕ) (p : Phase) where
       by_end input from p (λ bs q. running s bs ≡ still (after q)) r (running_append s (bytes input from p) (255 ∷ []) ∙ rw (r, iac))
 
 -- a turn that ends with a stretch
-abbrev turn : Stretch → Frame → Held → Bool → ℕ → Turn
-turn t f held cr at =
-    record { frame = f; reader = record { phase = t.phase; held = held; cr = cr }; event = Nothing; end = t.next; written = at }
+abbrev turn : Stretch → Frame → Held → Bool → Turn
+turn t f held cr = record { frame = f; reader = record { phase = t.phase; held = held; cr = cr }; event = Nothing; end = t.next }
 
 -- after the stretch the reader stands in no message of option 30, if it stood in none before
 outside_after : (p : Phase) (bytes : List ℕ) (from : ℕ) → in_message p ≡ false → in_message (read_of p 255).phase ≡ false
@@ -163,28 +162,27 @@ module _ {input : List ℕ} {from : ℕ} (h : from < length input) (p : Phase) {
   pub lies : Lies input from t
   lies = rw e (stretch_lies input from p h)
 
-  quiet_turn : {s : State} {f : Frame} {held : Held} {cr : Bool} {pad : Pad} {b : Screen} (at : ℕ)
+  quiet_turn : {s : State} {f : Frame} {held : Held} {cr : Bool} {pad : Pad} {b : Screen}
       → running s (part from t.next input) ≡ still (standing f t.phase held cr pad b) → in_message t.phase ≡ false
-      → f.x3 ≡ s.session.frame.x3 → QuietTurn s input from at (turn t f held cr at) pad b
-  quiet_turn at ran out on =
+      → f.x3 ≡ s.session.frame.x3 → QuietTurn s input from (turn t f held cr) pad b
+  quiet_turn ran out on =
       record {
         run = record { onward = omega (arith, lies.further); within = lies.within; ran = ran };
-        same = refl;
         nothing = refl;
         stands = out;
         x3 = on;
       }
 
   -- data
-  pub text_turn : {phase : Phase} {f f' : Frame} {held : Held} {cr cr' : Bool} {pad : Pad} {b : Screen} {chars : List ℕ} (at : ℕ) → phase ≡ p → p ≡ Rest
+  pub text_turn : {phase : Phase} {f f' : Frame} {held : Held} {cr cr' : Bool} {pad : Pad} {b : Screen} {chars : List ℕ} → phase ≡ p → p ≡ Rest
       → (j : Bool) → joins f pad ≡ j → Changes (effect_of j f cr b (part from t.end input)) b.chars b.attrs f' chars
       → cr' ≡ ends_in_cr cr (part from t.end input)
-      → QuietTurn (standing f phase held cr pad b) input from at (turn t f' held cr' at) pad (screen chars b.attrs b.marks)
+      → QuietTurn (standing f phase held cr pad b) input from (turn t f' held cr') pad (screen chars b.attrs b.marks)
   unfolding in_message read_of
-  text_turn {f = f} {f'} {held} {cr} {cr'} {pad} {b} {chars} at o q j k c ends =
+  text_turn {f = f} {f'} {held} {cr} {cr'} {pad} {b} {chars} o q j k c ends =
       let d = rw (e, q) at c in
       let last = rw (e, q) at ends in
-      quiet_turn at
+      quiet_turn
       (rw (o, e, q) (quiet_through input from Rest (standing f Rest held cr pad b) (λ x. standing f' x held cr' pad (screen chars b.attrs b.marks))
       (data_ran (bytes input from Rest) (stretch_plain input from Rest) f held cr pad b j k ∙ rw (← d.frame, ← d.characters, ← last))
       (rest_iac f' held cr' pad (screen chars b.attrs b.marks))))
@@ -192,13 +190,13 @@ module _ {input : List ℕ} {from : ℕ} (h : from < length input) (p : Phase) {
       (ap (λ (g : Frame). g.x3) c.frame ∙ text_x3 (view f b.attrs) _)
 
   -- a subnegotiation's bytes
-  pub payload_turn : {phase : Phase} {f : Frame} {held held' : Held} {cr : Bool} {pad : Pad} {b : Screen} (at o : ℕ) → phase ≡ p → p ≡ Inside o
+  pub payload_turn : {phase : Phase} {f : Frame} {held held' : Held} {cr : Bool} {pad : Pad} {b : Screen} (o : ℕ) → phase ≡ p → p ≡ Inside o
       → is_x3 o ≡ false → held' ≡ holding_all held (part from t.end input)
-      → QuietTurn (standing f phase held cr pad b) input from at (turn t f held' cr at) pad b
+      → QuietTurn (standing f phase held cr pad b) input from (turn t f held' cr) pad b
   unfolding in_message read_of inside
-  payload_turn {f = f} {held} {held'} {cr} {pad} {b} at o k q x c =
+  payload_turn {f = f} {held} {held'} {cr} {pad} {b} o k q x c =
       let d = rw (e, q) at c in
-      quiet_turn at
+      quiet_turn
       (rw (k, e, q) (quiet_through input from (Inside o) (standing f (Inside o) held cr pad b) (λ x. standing f x held' cr pad b)
       (held_ran (bytes input from (Inside o)) (stretch_plain input from (Inside o)) f o x held cr pad b ∙ rw (← d))
       (inside_iac_lem f held' cr pad b o)))

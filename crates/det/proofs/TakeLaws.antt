@@ -1,5 +1,5 @@
 -- Laws of one host byte: what is decided on its event, and what the decision does.
-use Rattle.std.proofs.Common.{◌≡◌, refl, sym, ap, ◌∙◌, Bool, true, false, not, ◌&&◌, List, [], ℕ, ◌+◌, ◌≤◌, ◌<◌, arith, eqb, length, drop, length-drop}
+use Rattle.std.proofs.Common.{◌≡◌, refl, sym, ap, ◌∙◌, Bool, true, false, not, ◌&&◌, List, [], ◌++◌, ℕ, ◌+◌, ◌≤◌, ◌<◌, arith, eqb, length, drop, length-drop}
 use Rattle.telnet.specs.declared.Event.{Event}
 use Rattle.telnet.specs.declared.Event.TheVariants.{Nothing, Data, Negotiation, Begin, Sub, End, EndBare, Lost}
 use Rattle.telnet.specs.declared.Step.{Step}
@@ -19,20 +19,27 @@ use Rattle.rules.proofs.Sound.{Accepted, sound_of}
 use Rattle.rules.proofs.Room.{room_byte}
 use Rattle.decide.specs.declared.decision.Decision.{Decision}
 use Rattle.decide.specs.declared.decision.Say.{Say}
-use Rattle.det.specs.declared.apply.Applied.{Applied}
+use Rattle.reply.specs.declared.Reply.{Reply}
 use Rattle.command.specs.Inner.Frame.{Fits}
 use Rattle.decide.specs.Decision.{meant, shown, parts_of, Sendable, Decides, ended_det}
-use Rattle.words.specs.Stored.{Emitted}
 use Rattle.reply.specs.Inner.Reply.{Sayable}
 use Rattle.text.specs.Text.{Changes}
 use Rattle.det.specs.Inner.Data.{data_effect, told_effect, det_effect}
-use Rattle.det.specs.Inner.Apply.{Applies, Answerable}
+use Rattle.det.specs.Inner.Apply.{Emits, Applies, Answerable}
 use Rattle.det.specs.Inner.Take.{Accepts}
 use Rattle.words.proofs.Laws.{either}
 use Rattle.screen.proofs.CellLaws.{cell_lt}
 use Rattle.pad.specs.Host.{prints_lf}
 use Rattle.text.proofs.TextLaws.{data_only}
-use Rattle.words.proofs.StoredLaws.{emitted_none}
+use Rattle.words.proofs.StoredLaws.{emitted_none, emitted_then}
+
+-- ---- bytes in a reply
+
+pub emits_none : {r : Reply} → Emits r [] r
+emits_none = record { same_buffer = refl; emitted = emitted_none }
+
+pub emits_then : {r r₁ r₂ : Reply} {xs ys : List ℕ} → Emits r xs r₁ → Emits r₁ ys r₂ → Emits r (xs ++ ys) r₂
+emits_then p q = record { same_buffer = q.same_buffer ∙ p.same_buffer; emitted = emitted_then p.emitted q.emitted }
 
 -- ---- what is done on an event
 
@@ -49,15 +56,14 @@ module _ {e : Effect} {f : Frame} {b : Screen} {reply : List ℕ} {at : ℕ} (a 
       record { sendable = p.sendable; long = a.long; room = rw parts a.room }
 
   -- and what is applied is the effect
-  pub decided_applies : {done : Applied} {b' : Screen} {reply' : List ℕ} → Applies (meant b.attrs d) b reply at done b' reply'
-      → Applies e b reply at done b' reply'
+  pub decided_applies : {f' : Frame} {b' : Screen} {r r' : Reply} → Applies (meant b.attrs d) b r f' b' r' → Applies e b r f' b' r'
   decided_applies h =
-      let r = rw means at h in
+      let k = rw means at h in
       record {
-        changes = record { frame = r.changes.frame; characters = r.changes.characters };
-        attributes = r.attributes;
-        marks = r.marks;
-        replies = r.replies;
+        changes = record { frame = k.changes.frame; characters = k.changes.characters };
+        attributes = k.attributes;
+        marks = k.marks;
+        replies = k.replies;
       }
 
 -- what is done on an event is what the rules say, but for the end of a message of option 30
@@ -93,10 +99,9 @@ module _ (f : Frame) (lf cr : Bool) (byte : ℕ) {chars attrs : List ℕ} where
   unfolding data_effect
   data_obeyed e c = rw e c
 
-pub data_applies : (f : Frame) (lf cr : Bool) (byte : ℕ) {f' : Frame} {b : Screen} {chars reply : List ℕ} {at : ℕ}
+pub data_applies : (f : Frame) (lf cr : Bool) (byte : ℕ) {f' : Frame} {b : Screen} {chars : List ℕ} {r : Reply}
     → Changes (data_effect (view f b.attrs) lf cr byte) b.chars b.attrs f' chars
-    → Applies (data_effect (view f b.attrs) lf cr byte) b reply at (record { frame = f'; written = at })
-    (screen chars b.attrs b.marks) reply
+    → Applies (data_effect (view f b.attrs) lf cr byte) b r f' (screen chars b.attrs b.marks) r
 unfolding spelled_all marks_after
 data_applies f lf cr byte {b = b} k =
     let only = effect_only (view f b.attrs) lf cr byte in
@@ -104,7 +109,7 @@ data_applies f lf cr byte {b = b} k =
       changes = k;
       attributes = ap (λ (e : Effect). e.view.attrs) (sym only);
       marks = rw (ap (λ (e : Effect). e.marking) only);
-      replies = rw (ap (λ (e : Effect). e.reply) only) emitted_none;
+      replies = rw (ap (λ (e : Effect). e.reply) only) emits_none;
     }
 
 -- ---- a byte that is taken
@@ -137,6 +142,7 @@ module _ (s : State) (reply : List ℕ) (at : ℕ) (a : Accepts s reply at) wher
       → Sayable e say s.screen reply at
   sayable t h = record { sendable = t; long = equally_long; room = fits_worst h }
 
+module _ (s : State) (r : Reply) (a : Accepts s r.buffer.now r.at) where
   module _ (byte : ℕ) {step : Step} (e : step ≡ read_of s.session.reader.phase byte) where
     -- what is done on the event that the byte tells
     abbrev happens : Effect
@@ -144,29 +150,29 @@ module _ (s : State) (reply : List ℕ) (at : ℕ) (a : Accepts s reply at) wher
 
     abbrev after : Reader
     after =
-        let r = s.session.reader in
-        record { phase = step.phase; held = held_after r.held step.event; cr = cr_after r.cr step.event }
+        let before = s.session.reader in
+        record { phase = step.phase; held = held_after before.held step.event; cr = cr_after before.cr step.event }
 
     byte_is : host_byte s byte ≡ applied s after (pad_after s.session.frame s.session.pad step.event) happens
     unfolding host_byte
     byte_is = rw (← e)
 
     -- the reply to it can be written
-    pub byte_answerable : Answerable happens s.session.frame s.screen reply at
+    pub byte_answerable : Answerable happens s.session.frame s.screen r.buffer.now r.at
     byte_answerable = record {
-      fits = accepts_fits;
-      long = equally_long;
-      room = fits_worst (rw byte_is at (room_byte accepted.sound byte));
+      fits = accepts_fits s r.buffer.now r.at a;
+      long = equally_long s r.buffer.now r.at a;
+      room = fits_worst s r.buffer.now r.at a (rw byte_is at (room_byte (accepted s r.buffer.now r.at a).sound byte));
     }
 
     -- and what is done is what the byte does
-    module _ {done : Applied} {b : Screen} {reply' : List ℕ} (h : Applies happens s.screen reply at done b reply') where
-      pub byte_state : {r : Reader} → r ≡ after
-          → state (session done.frame r (pad_after s.session.frame s.session.pad step.event)) b ≡ (host_byte s byte).state
+    module _ {f : Frame} {b : Screen} {r' : Reply} (h : Applies happens s.screen r f b r') where
+      pub byte_state : {reader : Reader} → reader ≡ after
+          → state (session f reader (pad_after s.session.frame s.session.pad step.event)) b ≡ (host_byte s byte).state
       byte_state q =
           rw (byte_is, q) (λ i. state
           (session (h.changes.frame i) after (pad_after s.session.frame s.session.pad step.event))
           (screen (h.changes.characters i) (h.attributes i) (h.marks i)))
 
-      pub byte_replies : Emitted reply at (host_byte s byte).replies reply' done.written
+      pub byte_replies : Emits r (host_byte s byte).replies r'
       byte_replies = rw byte_is h.replies

@@ -6,7 +6,7 @@ ghost use Rattle.command.specs.Frame.{lent, seen};
 ghost use Rattle.decide.specs.Decision.{edited, attrs_of, meant};
 ghost use Rattle.decide.specs.Inner.Decision.{changes_of, marking_of};
 ghost use Rattle.reply.specs.Pieces.{say_pieces};
-ghost use Rattle.reply.specs.Written.{Wrote};
+ghost use Rattle.reply.specs.Written.{Puts};
 ghost use Rattle.reply.specs.Inner.Reply.{Sayable};
 ghost use Rattle.text.specs.Text.{Changes};
 ghost use Rattle.det.specs.Inner.Apply.{Applies};
@@ -14,15 +14,9 @@ ghost use Rattle.det.specs.Inner.Apply.{Applies};
 use command::frame::moved;
 use decide::decision::{Decision, Edit, Fill, Say};
 use edit::range::{erase, fill, shift_range};
-use reply::write_reply;
+use reply::{Reply, Screen};
 use rules::{Edition, Frame};
 use text::data::{put_character, set_cell};
-
-#[derive(Clone, Copy, Debug, PartialEq, Eq)]
-pub struct Applied {
-    pub frame: Frame,
-    pub written: usize,
-}
 
 // A change other than REPEAT.
 #[tactic(auto, unfolding(rules::specs::Effect::changed, rules::specs::Effect::changed_all))]
@@ -104,22 +98,14 @@ pub(crate) fn mark(clear: bool, edit: Edit, marks: &mut [u8])
 }
 
 // Most decisions say nothing and change no character: those take no call, and no copy of what a call is given.
-#[tactic(auto, using(reply::proofs::WriteLaws::wrote_none))]
-fn say_any(
-    edition: Edition,
-    say: Say,
-    chars: &[u8],
-    attrs: &[u8],
-    marks: &[u8],
-    reply: &mut [u8],
-    at: usize,
-) -> usize
-    ensures { Wrote reply.old at
-        (say_pieces edition chars.now attrs.now marks.now say) reply.new result }
+#[tactic(auto, using(reply::proofs::WriteLaws::puts_none))]
+fn say_any(edition: Edition, say: Say, screen: Screen<'_>, reply: &mut Reply<'_>)
+    ensures { Puts reply.old
+        (say_pieces edition screen.entry.chars.now screen.entry.attrs.now screen.entry.marks.now say) reply.new }
 {
     match say {
-        Say::Silent => at,
-        _ => write_reply(edition, say, chars, attrs, marks, reply, at),
+        Say::Silent => {}
+        _ => reply.say(edition, say, screen),
     }
 }
 
@@ -137,12 +123,11 @@ pub(crate) fn apply(
     chars: &mut [u8],
     attrs: &mut [u8],
     marks: &mut [u8],
-    reply: &mut [u8],
-    at: usize,
-) -> Applied
-    requires { Sayable decision.frame.edition decision.say (lent chars.old attrs.old marks.old) reply.old at }
+    reply: &mut Reply<'_>,
+) -> Frame
+    requires { Sayable decision.frame.edition decision.say (lent chars.old attrs.old marks.old) reply.old.buffer.now reply.old.at }
     ensures { Applies (meant attrs.old decision)
-        (lent chars.old attrs.old marks.old) reply.old at
+        (lent chars.old attrs.old marks.old) reply.old
         result (lent chars.new attrs.new marks.new) reply.new }
 {
     let Decision {
@@ -152,9 +137,14 @@ pub(crate) fn apply(
         format,
         clear,
     } = decision;
-    let written = say_any(decided.edition, say, chars, attrs, marks, reply, at);
+    let screen = Screen {
+        chars,
+        attrs,
+        marks,
+    };
+    say_any(decided.edition, say, screen, reply);
     let frame = change_any(decided, edit, chars, attrs);
     format_attrs(format, attrs);
     mark(clear, edit, marks);
-    Applied { frame, written }
+    frame
 }

@@ -18,7 +18,7 @@ use local::told::{ends_other, pad_told};
 use local::typed::{echo_key, refuse_line, send_line, takes_key, type_key};
 use pad::host::prints_lf;
 use pad::message::idle;
-use reply::write_reply;
+use reply::{Reply, Screen};
 use rules::{Answer, Session, Verdict};
 
 // Host bytes that are not refused: taken from the front while there are any and the reply buffer has room for one more reply.
@@ -39,19 +39,21 @@ fn take_all(
     let mut reader = session.reader;
     let mut pad = session.pad;
     let mut from = 0;
-    let mut written = 0;
+    let mut reply = Reply {
+        buffer: reply,
+        at: 0,
+    };
     let mut lf = prints_lf(session.pad.values);
     while from < input.len() {
-        if reply.len() - written < room {
+        if reply.room() < room {
             break;
         }
         if in_message(reader.phase) {
-            let one = take_byte(frame, reader, pad, input[from], reply, written);
+            let one = take_byte(frame, reader, pad, input[from], &mut reply);
             from += 1;
             reader = one.reader;
             pad = one.pad;
             lf = prints_lf(pad.values);
-            written = one.written;
             continue;
         }
         let start = Start {
@@ -60,11 +62,9 @@ fn take_all(
             frame,
             reader,
             lf,
-            at: written,
         };
-        let turn = take_turn(start, chars, attrs, marks, reply);
+        let turn = take_turn(start, chars, attrs, marks, &mut reply);
         from = turn.end;
-        written = turn.written;
         reader = turn.reader;
         if ends_other(turn.event) {
             pad.message = idle();
@@ -78,7 +78,7 @@ fn take_all(
         session: Session { frame, reader, pad },
         verdict: Ok(()),
         taken: from,
-        written,
+        written: reply.at,
     }
 }
 
@@ -126,14 +126,23 @@ fn take_meaning(
 {
     let decision = press(session.frame, attrs, key_of(code));
     let decided = decision.frame;
-    let written = write_reply(decided.edition, decision.say, chars, attrs, marks, reply, 0);
+    let mut reply = Reply {
+        buffer: reply,
+        at: 0,
+    };
+    let screen = Screen {
+        chars,
+        attrs,
+        marks,
+    };
+    reply.say(decided.edition, decision.say, screen);
     let frame = change_chars(decided, decision.edit, chars, attrs);
     mark(decision.clear, decision.edit, marks);
     Answer {
         session: Session { frame, ..session },
         verdict: Ok(()),
         taken: 1,
-        written,
+        written: reply.at,
     }
 }
 

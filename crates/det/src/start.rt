@@ -17,8 +17,7 @@ pub(crate) fn in_message(phase: Phase) -> bool
     }
 }
 
-// The input, of which something is left from `from` on, and what a turn goes by. Of the PAD that is `lf` alone: is CR LF printed as such? Its
-// reply goes to `at`.
+// The input, of which something is left from `from` on, and what a turn goes by. Of the PAD that is `lf` alone: is CR LF printed as such?
 #[derive(Clone, Copy, Debug, PartialEq, Eq)]
 pub struct Start<'a> {
     pub input: &'a [u8],
@@ -26,7 +25,6 @@ pub struct Start<'a> {
     pub frame: Frame,
     pub reader: Reader,
     pub lf: bool,
-    pub at: usize,
     ghost outside: { in_message reader.phase ≡ false },
     ghost more: { from < length input.now },
 }

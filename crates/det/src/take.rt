@@ -9,7 +9,7 @@ ghost use Rattle.det.specs.Inner.Data.{told_effect};
 ghost use Rattle.det.specs.Inner.Apply.{Answerable, Applies};
 ghost use Rattle.det.specs.Inner.Take.{AcceptsTurn, told_of, TellsNext, effect_at, QuietTurns, Turns};
 
-use crate::apply::{Applied, apply};
+use crate::apply::apply;
 use crate::data::{obey_data, take_bytes};
 use crate::start::Start;
 use command::held::{held_of, hold_all, none};
@@ -18,20 +18,20 @@ use decide::decision::Decision;
 use decide::negotiate::negotiate;
 use decide::obey::decide_end;
 use local::message::read_byte;
+use reply::Reply;
 use rules::{Frame, Held, Reader};
 use telnet::ahead::look_ahead;
 use telnet::stretch::{data_at, payload_at};
 use telnet::{Event, Phase};
 
-// Where some bytes leave the frame and the reader, what was told last, where they end in the input, and where the next reply goes. The
-// PAD is left to the caller, who tells it: it is large, and a turn is short.
+// Where some bytes leave the frame and the reader, what was told last, and where they end in the input. The PAD is left to the caller, who
+// tells it: it is large, and a turn is short.
 #[derive(Clone, Copy, Debug, PartialEq, Eq)]
 pub struct Turn {
     pub frame: Frame,
     pub reader: Reader,
     pub event: Event,
     pub end: usize,
-    pub written: usize,
 }
 
 // What is told next: `held` is what was held before it, `reader` stands after it, at `next`.
@@ -64,21 +64,18 @@ fn happen(
     chars: &mut [u8],
     attrs: &mut [u8],
     marks: &mut [u8],
-    reply: &mut [u8],
-) -> Applied
-    requires { Answerable (effect_at here told attrs.old) here.frame (lent chars.old attrs.old marks.old) reply.old here.at }
+    reply: &mut Reply<'_>,
+) -> Frame
+    requires { Answerable (effect_at here told attrs.old) here.frame (lent chars.old attrs.old marks.old) reply.old.buffer.now reply.old.at }
     ensures { Applies (effect_at here.entry told attrs.old)
-        (lent chars.old attrs.old marks.old) reply.old here.entry.at
+        (lent chars.old attrs.old marks.old) reply.old
         result (lent chars.new attrs.new marks.new) reply.new }
 {
     match told.event {
-        Event::Data(byte) => Applied {
-            frame: obey_data(here.frame, here.lf, here.reader.cr, byte, chars, attrs),
-            written: here.at,
-        },
+        Event::Data(byte) => obey_data(here.frame, here.lf, here.reader.cr, byte, chars, attrs),
         _ => {
             let decision = decide_event(here.frame, attrs, told.held, told.event);
-            apply(decision, chars, attrs, marks, reply, here.at)
+            apply(decision, chars, attrs, marks, reply)
         }
     }
 }
@@ -120,13 +117,13 @@ fn told_at(here: Start) -> Told
 }
 
 // A whole subnegotiation, or one byte.
-// The lent buffers stay slices: a struct of `&mut`s adds to each contract that its references stay, and `key` lends `attrs` as a `&`.
+// The lent screen stays three slices: data and keys lend `attrs` as a `&`, a decision as a `&mut`, and a struct holds one of the two.
 fn take_told(
     here: Start,
     chars: &mut [u8],
     attrs: &mut [u8],
     marks: &mut [u8],
-    reply: &mut [u8],
+    reply: &mut Reply<'_>,
 ) -> Turn
     requires { AcceptsTurn here (lent chars.old attrs.old marks.old) reply.old }
     ensures onward { here.entry.from < result.end }
@@ -134,13 +131,12 @@ fn take_told(
         result (lent chars.new attrs.new marks.new) reply.new }
 {
     let told = told_at(here);
-    let done = happen(here, told, chars, attrs, marks, reply);
+    let frame = happen(here, told, chars, attrs, marks, reply);
     Turn {
-        frame: done.frame,
+        frame,
         reader: told.reader,
         event: told.event,
         end: told.next,
-        written: done.written,
     }
 }
 
@@ -163,7 +159,6 @@ fn take_text(here: Start, chars: &mut [u8], attrs: &[u8]) -> Turn
         },
         event: Event::Nothing,
         end: stretch.next,
-        written: here.at,
     }
 }
 
@@ -184,7 +179,6 @@ fn take_payload(option: u8, here: Start) -> Turn
         },
         event: Event::Nothing,
         end: stretch.next,
-        written: here.at,
     }
 }
 
@@ -202,7 +196,6 @@ fn take_stretch(here: Start, chars: &mut [u8], attrs: &[u8]) -> Turn
             reader: here.reader,
             event: Event::Nothing,
             end: here.from,
-            written: here.at,
         },
     }
 }
@@ -213,7 +206,7 @@ pub(crate) fn take_turn(
     chars: &mut [u8],
     attrs: &mut [u8],
     marks: &mut [u8],
-    reply: &mut [u8],
+    reply: &mut Reply<'_>,
 ) -> Turn
     requires { AcceptsTurn here (lent chars.old attrs.old marks.old) reply.old }
     ensures onward { here.entry.from < result.end }
@@ -230,7 +223,6 @@ pub(crate) fn take_turn(
         frame: stretch.frame,
         reader: stretch.reader,
         lf: here.lf,
-        at: here.at,
     };
     take_told(next, chars, attrs, marks, reply)
 }

@@ -6,14 +6,19 @@ use Rattle.rules.specs.Effect.{Effect, marks_after, spelled_all}
 use Rattle.command.specs.Inner.Frame.{Fits}
 use Rattle.text.specs.Text.{Changes}
 use Rattle.words.specs.Stored.{Room, Emitted}
-use Rattle.det.specs.declared.apply.Applied.{Applied}
+use Rattle.reply.specs.declared.Reply.{Reply}
 
--- the characters, the attribute bytes and the marks afterwards, and the reply from `at` on, written from the screen as it was
-pub record Applies (e : Effect) (b : Screen) (reply : List ℕ) (at : ℕ) (a : Applied) (b' : Screen) (reply' : List ℕ) : Type 0 where
-  pub changes : Changes e b.chars b.attrs a.frame b'.chars
+-- from a reply, these bytes gave this one: in the buffer that was lent, what it holds now, and the place after what was written
+pub record Emits (r : Reply) (bytes : List ℕ) (r' : Reply) : Type 0 where
+  pub same_buffer : r'.buffer.ghost_name ≡ r.buffer.ghost_name
+  pub emitted : Emitted r.buffer.now r.at bytes r'.buffer.now r'.at
+
+-- the frame, the characters, the attribute bytes and the marks afterwards, and the reply, written from the screen as it was
+pub record Applies (e : Effect) (b : Screen) (r : Reply) (f : Frame) (b' : Screen) (r' : Reply) : Type 0 where
+  pub changes : Changes e b.chars b.attrs f b'.chars
   pub attributes : b'.attrs ≡ e.view.attrs
   pub marks : b'.marks ≡ marks_after b.marks e.marking
-  pub replies : Emitted reply at (spelled_all b e.reply) reply' a.written
+  pub replies : Emits r (spelled_all b e.reply) r'
 
 -- the frame is the screen's, and the effect's reply fits from `at` on
 pub record Answerable (e : Effect) (f : Frame) (b : Screen) (reply : List ℕ) (at : ℕ) : Type 0 where

@@ -16,12 +16,13 @@ use Rattle.rules.specs.Effect.{Effect}
 use Rattle.rules.specs.Telnet.{held_after, cr_after}
 use Rattle.rules.specs.Pad.{is_x3, pad_after}
 use Rattle.rules.specs.Operation.{Outcome, reader_after, running, answering, taken_of, host_refusal, host_ran, key_ran}
-use Rattle.words.specs.Stored.{Emitted}
+use Rattle.reply.specs.declared.Reply.{Reply}
 use Rattle.det.specs.declared.start.Start.{Start}
 use Rattle.det.specs.declared.take.Turn.{Turn}
 use Rattle.det.specs.declared.take.Told.{Told}
 use Rattle.det.specs.Inner.Message.{in_message}
 use Rattle.det.specs.Inner.Data.{det_effect}
+use Rattle.det.specs.Inner.Apply.{Emits}
 
 -- ---- what is asked
 
@@ -34,21 +35,21 @@ Accepts s reply at = host_refusal s (drop at reply) ≡ Ok tt
 abbrev pub fresh_with : Bool → Pad
 fresh_with lf = pad_with (with_pair start_values 13 (if lf then 1 else 0)) (line_of []) idle_message
 
-abbrev pub AcceptsTurn : Start → Screen → List ℕ → Type 0
-AcceptsTurn h b reply = Accepts (state (session h.frame h.reader (fresh_with h.lf)) b) reply h.at
+abbrev pub AcceptsTurn : Start → Screen → Reply → Type 0
+AcceptsTurn h b r = Accepts (state (session h.frame h.reader (fresh_with h.lf)) b) r.buffer.now r.at
 
 -- ---- some bytes of the input
 
--- Those from `from` to `end` are taken, and lead from s to s'; their replies are written from `at` on. Of the rest as many are
--- taken as the rules say.
-pub record Taking (s : State) (input : List ℕ) (from : ℕ) (reply : List ℕ) (at : ℕ)
-    (s' : State) (end : ℕ) (reply' : List ℕ) (at' : ℕ) : Type 0 where
+-- Those from `from` to `end` are taken, and lead from s to s'; their replies are written. Of the rest as many are taken as the rules
+-- say.
+pub record Taking (s : State) (input : List ℕ) (from : ℕ) (r : Reply) (s' : State) (end : ℕ) (r' : Reply) : Type 0 where
   pub onward : from ≤ end
   pub within : end ≤ length input
-  pub room : at' ≤ length reply
+  pub room : r'.at ≤ length r.buffer.now
   pub state : s' ≡ (running s (part from end input)).state
-  pub replies : Emitted reply at (running s (part from end input)).replies reply' at'
-  pub count : taken_of s (length reply - at) (drop from input) ≡ (end - from) + taken_of s' (length reply - at') (drop end input)
+  pub replies : Emits r (running s (part from end input)).replies r'
+  pub count : taken_of s (length r.buffer.now - r.at) (drop from input)
+      ≡ (end - from) + taken_of s' (length r.buffer.now - r'.at) (drop end input)
 
 -- those from `from` to `end` draw no reply, and lead from s to s'
 pub record QuietRun (s : State) (input : List ℕ) (from : ℕ) (s' : State) (end : ℕ) : Type 0 where
@@ -58,9 +59,8 @@ pub record QuietRun (s : State) (input : List ℕ) (from : ℕ) (s' : State) (en
 
 -- a turn that takes some bytes, which draw no reply and tell the PAD nothing; option 30 stays on or off, and the reader stands in no
 -- message of it afterwards
-pub record QuietTurn (s : State) (input : List ℕ) (from at : ℕ) (t : Turn) (p : Pad) (b : Screen) : Type 0 where
+pub record QuietTurn (s : State) (input : List ℕ) (from : ℕ) (t : Turn) (p : Pad) (b : Screen) : Type 0 where
   pub run : QuietRun s input from (state (session t.frame t.reader p) b) t.end
-  pub same : t.written ≡ at
   pub nothing : t.event ≡ Nothing
   pub stands : in_message t.reader.phase ≡ false
   pub x3 : t.frame.x3 ≡ s.session.frame.x3
@@ -68,7 +68,7 @@ pub record QuietTurn (s : State) (input : List ℕ) (from at : ℕ) (t : Turn) (
 -- the same, whatever the PAD is whose parameter 13 it goes by
 abbrev pub QuietTurns : Start → Screen → Turn → Screen → Type 0
 QuietTurns h b t b' =
-    (p : Pad) → prints_lf p.values ≡ h.lf → QuietTurn (state (session h.frame h.reader p) b) h.input.now h.from h.at t p b'
+    (p : Pad) → prints_lf p.values ≡ h.lf → QuietTurn (state (session h.frame h.reader p) b) h.input.now h.from t p b'
 
 -- what one byte tells
 unfoldable pub told_of : Reader → ℕ → ℕ → Told
@@ -101,11 +101,11 @@ abbrev pub effect_at : Start → Told → List ℕ → Effect
 effect_at h t attrs = det_effect (view h.frame attrs) h.lf t.held h.reader.cr t.event
 
 -- A turn, whatever the PAD is whose parameter 13 it goes by: the PAD is then told what was told last.
-abbrev pub Turns : Start → Screen → List ℕ → Turn → Screen → List ℕ → Type 0
-Turns h b reply t b' reply' =
-    (p : Pad) → prints_lf p.values ≡ h.lf → Accepts (state (session h.frame h.reader p) b) reply h.at
-    → Taking (state (session h.frame h.reader p) b) h.input.now h.from reply h.at
-    (state (session t.frame t.reader (pad_after h.frame p t.event)) b') t.end reply' t.written
+abbrev pub Turns : Start → Screen → Reply → Turn → Screen → Reply → Type 0
+Turns h b r t b' r' =
+    (p : Pad) → prints_lf p.values ≡ h.lf → Accepts (state (session h.frame h.reader p) b) r.buffer.now r.at
+    → Taking (state (session h.frame h.reader p) b) h.input.now h.from r
+    (state (session t.frame t.reader (pad_after h.frame p t.event)) b') t.end r'
 
 -- ---- what a call comes to
 

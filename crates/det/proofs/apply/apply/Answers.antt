@@ -1,6 +1,5 @@
 use Rattle.std.proofs.Common.{◌∙◌}
-use Rattle.reply.proofs.ReplyLaws.{said}
-use Rattle.det.proofs.ApplyLaws.{marking_of_lem}
+use Rattle.det.proofs.ApplyLaws.{marking_of_lem, puts_said}
 use Rattle.det.proofs.apply.apply.Goals as goal
 
 -- the reply, the characters, the attribute bytes and the marks are each settled by one call
@@ -11,5 +10,5 @@ returns c =
       changes = record { frame = done.frame; characters = done.characters };
       attributes = c.format_attrs.ensures;
       marks = c.mark.ensures ∙ rw (marking_of_lem _ c.args.decision.edit);
-      replies = said c.requires c.say_any-written.ensures;
+      replies = puts_said c.requires c.say_any.ensures;
     }

@@ -1,4 +1,5 @@
 use Rattle.std.proofs.Common.{◌≡◌, refl, sym, ap, ◌∙◌, arith, rules}
+use Rattle.words.proofs.StoredLaws.{emitted_length}
 use Rattle.rules.proofs.Running.{taken_end, taken_full}
 use Rattle.pad.specs.Host.{prints_lf}
 use Rattle.rules.specs.declared.Pad.{Pad}
@@ -7,37 +8,36 @@ use Rattle.local.proofs.ToldLaws.{other_clears}
 use Rattle.det.proofs.HostLaws.{accepts_turn, taking_none, taking_then, taking_room, taking_accepts, taking_done}
 use Rattle.det.proofs.MessageLaws.{message_taking}
 use Rattle.det.proofs.operation.take_all.Goals as goal
-use Rattle.det.proofs.operation.take_all.Goals.{then-ends_other, else-ends_other}
+use Rattle.det.proofs.operation.take_all.Goals.{then-ends_other, else-ends_other, else-loop-from-test, then-loop-from-test+then-room}
 
 pub loop-from-init : goal.loop-from-init
-loop-from-init c = (taking_none (omega arith) (omega arith), refl, refl, refl, refl, c.prints_lf-lf.ensures)
+loop-from-init c = (taking_none (omega arith) (omega arith), refl, refl, refl, c.prints_lf-lf.ensures)
 
 -- a byte in a half-read message
 pub loop-from-preserved-then-in_message : goal.loop-from-preserved-then-in_message
 loop-from-preserved-then-in_message c =
     let i = c.loop-from.invariant in
-    let a = taking_accepts i.0 c.requires (omega (arith, c.reply_room-room.ensures, c.if-reply-written.false)) in (
+    let a = taking_accepts i.0 c.requires (omega (arith, c.reply_room-room.ensures, c.room.ensures, c.if-room.false)) in (
       taking_then i.0
-          (message_taking _ _ _ _ _ _ a (sym c.in_message.ensures ∙ c.if-in_message.true) c.loop-from-test.true
+          (message_taking _ _ _ _ _ a (sym c.in_message.ensures ∙ c.if-in_message.true) c.loop-from-test.true
           c.take_byte-one.ensures),
       i.1,
       i.2,
       i.3,
-      search rules,
       c.prints_lf-lf-then-in_message.ensures,
     )
 
 pub take_turn-turn-requires : goal.take_turn-turn-requires
 take_turn-turn-requires c =
     let i = c.loop-from.invariant in
-    accepts_turn _ _ _ c.loop-from.lf _ c.loop-from.reply c.loop-from.written
-    (taking_accepts i.0 c.requires (omega (arith, c.reply_room-room.ensures, c.if-reply-written.false)))
+    accepts_turn _ _ _ c.loop-from.lf _ c.loop-from.reply.buffer.now c.loop-from.reply.at
+    (taking_accepts i.0 c.requires (omega (arith, c.reply_room-room.ensures, c.room.ensures, c.if-room.false)))
 
 -- a stretch, and what is told after it
 pub loop-from-preserved : goal.loop-from-preserved
 loop-from-preserved c =
     let i = c.loop-from.invariant in
-    let a = taking_accepts i.0 c.requires (omega (arith, c.reply_room-room.ensures, c.if-reply-written.false)) in
+    let a = taking_accepts i.0 c.requires (omega (arith, c.reply_room-room.ensures, c.room.ensures, c.if-room.false)) in
     let told : c.if-ends_other.pad ≡ pad_after c.loop-from.frame c.loop-from.pad c.take_turn-turn.result.event =
     elim c.if-ends_other.branch [
       | then-ends_other w ↦
@@ -47,21 +47,24 @@ loop-from-preserved c =
     ] in
     let prints : c.if-ends_other.lf ≡ prints_lf c.if-ends_other.pad.values =
     elim c.if-ends_other.branch [
-      | then-ends_other w ↦ w.lf-is ∙ i.5 ∙ ap (λ (p : Pad). prints_lf p.values) (sym w.pad-is)
+      | then-ends_other w ↦ w.lf-is ∙ i.4 ∙ ap (λ (p : Pad). prints_lf p.values) (sym w.pad-is)
       | else-ends_other w ↦ w.lf-is ∙ w.prints_lf-lf-else-ends_other.ensures ∙ ap (λ (p : Pad). prints_lf p.values) (sym w.pad-is)
     ] in (
-      taking_then i.0 (rw (← told) at (c.take_turn-turn.ensures.turns _ (sym i.5) a)),
-      search rules,
+      taking_then i.0 (rw (← told) at (c.take_turn-turn.ensures.turns _ (sym i.4) a)),
       search rules,
       search rules,
       search rules,
       prints,
     )
 
-pub returns-after-loop-from : goal.returns-after-loop-from
-returns-after-loop-from c = taking_done c.loop-from.invariant.0 (taken_end _ _ _ _ c.loop-from-test.false)
-
-pub returns-then-reply-written : goal.returns-then-reply-written
-returns-then-reply-written c =
-    let same = taking_room c.loop-from.invariant.0 c.requires in
-    taking_done c.loop-from.invariant.0 (taken_full _ _ _ (omega (arith, same, c.reply_room-room.ensures, c.if-reply-written.true)))
+-- nothing is left, or there is no room for a reply
+pub returns : goal.returns
+returns c =
+    let i = c.loop-from.invariant in
+    let same = taking_room i.0 c.requires in
+    let long = emitted_length i.0.replies.emitted in
+    taking_done i.0 refl (search rules)
+    (elim c.loop-from-test.branch [
+      | else-loop-from-test w ↦ taken_end _ _ _ _ w.loop-from-test.false
+      | then-loop-from-test+then-room w ↦ taken_full _ _ _ (omega (arith, same, long, c.reply_room-room.ensures, w.room.ensures, w.if-room.true))
+    ])

@@ -8,11 +8,10 @@ use Rattle.det.proofs.operation.take_all.Given as goal
 abbrev pub invariant-loop-from : goal.invariant-loop-from
 invariant-loop-from l =
     Taking (state (session l.initial.frame l.initial.reader l.initial.pad) (screen l.fn.chars l.fn.attrs l.fn.marks)) l.input 0
-    l.fn.reply 0 (state (session l.frame l.reader l.pad) (screen l.chars l.attrs l.marks)) l.from l.reply l.written
+    l.initial.reply (state (session l.frame l.reader l.pad) (screen l.chars l.attrs l.marks)) l.from l.reply
     × (length l.chars ≡ length l.fn.chars)
     × (length l.attrs ≡ length l.fn.attrs)
     × (length l.marks ≡ length l.fn.marks)
-    × (length l.reply ≡ length l.fn.reply)
     × (l.lf ≡ prints_lf l.pad.values)
 
 abbrev pub decreases-loop-from : goal.decreases-loop-from

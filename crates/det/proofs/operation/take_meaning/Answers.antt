@@ -1,7 +1,9 @@
+use Rattle.std.proofs.Common.{rules}
+use Rattle.reply.proofs.WriteLaws.{puts_end}
 use Rattle.det.proofs.KeyLaws.{key_settled}
 use Rattle.det.proofs.operation.take_meaning.Goals as goal
 
 pub returns : goal.returns
 returns c =
     key_settled _ _ _ c.requires.not_refused c.requires.line_leaves c.key_of.ensures c.press-decision.ensures
-    c.write_reply-written.ensures c.change_chars-frame.ensures c.mark.ensures
+    (puts_end c.say.ensures (search rules)) c.change_chars-frame.ensures c.mark.ensures

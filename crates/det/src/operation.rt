@@ -63,7 +63,7 @@ fn take_all(
             reader,
             lf,
         };
-        let turn = take_turn(start, chars, attrs, marks, &mut reply);
+        let turn = take_turn(&start, chars, attrs, marks, &mut reply);
         from = turn.end;
         reader = turn.reader;
         if ends_other(turn.event) {

@@ -59,15 +59,15 @@ fn decide_event(frame: Frame, attrs: &[u8], held: Held, event: Event) -> Decisio
 // Does what an event asks for that ends no message of option 30.
 #[tactic(auto, unfolding(crate::specs::Inner::Data::det_effect))]
 fn happen(
-    here: Start,
+    here: &Start<'_>,
     told: Told,
     chars: &mut [u8],
     attrs: &mut [u8],
     marks: &mut [u8],
     reply: &mut Reply<'_>,
 ) -> Frame
-    requires { Answerable (effect_at here told attrs.old) here.frame (lent chars.old attrs.old marks.old) reply.old.buffer.now reply.old.at }
-    ensures { Applies (effect_at here.entry told attrs.old)
+    requires { Answerable (effect_at here.now told attrs.old) here.now.frame (lent chars.old attrs.old marks.old) reply.old.buffer.now reply.old.at }
+    ensures { Applies (effect_at here.now told attrs.old)
         (lent chars.old attrs.old marks.old) reply.old
         result (lent chars.new attrs.new marks.new) reply.new }
 {
@@ -96,8 +96,8 @@ fn told_byte(reader: Reader, byte: u8, next: usize) -> Told
 
 // A whole subnegotiation tells its end, but one of option 30 goes a byte at a time; any other byte is asked of the reader.
 #[tactic(auto, using(crate::proofs::QuietLaws::told_next))]
-fn told_at(here: Start) -> Told
-    ensures { TellsNext here.entry result }
+fn told_at(here: &Start<'_>) -> Told
+    ensures { TellsNext here.now result }
 {
     let input = here.input;
     let reader = here.reader;
@@ -119,15 +119,15 @@ fn told_at(here: Start) -> Told
 // A whole subnegotiation, or one byte.
 // The lent screen stays three slices: data and keys lend `attrs` as a `&`, a decision as a `&mut`, and a struct holds one of the two.
 fn take_told(
-    here: Start,
+    here: &Start<'_>,
     chars: &mut [u8],
     attrs: &mut [u8],
     marks: &mut [u8],
     reply: &mut Reply<'_>,
 ) -> Turn
-    requires { AcceptsTurn here (lent chars.old attrs.old marks.old) reply.old }
-    ensures onward { here.entry.from < result.end }
-    ensures turns { Turns here.entry (lent chars.old attrs.old marks.old) reply.old
+    requires { AcceptsTurn here.now (lent chars.old attrs.old marks.old) reply.old }
+    ensures onward { here.now.from < result.end }
+    ensures turns { Turns here.now (lent chars.old attrs.old marks.old) reply.old
         result (lent chars.new attrs.new marks.new) reply.new }
 {
     let told = told_at(here);
@@ -142,9 +142,9 @@ fn take_told(
 
 // At rest: the data up to the next IAC, and that IAC.
 #[tactic(auto, using(crate::proofs::QuietLaws::lies))]
-fn take_text(here: Start, chars: &mut [u8], attrs: &[u8]) -> Turn
-    requires { here.reader.phase ≡ Rest }
-    ensures { (marks : List ℕ) → QuietTurns here.entry (screen chars.old attrs.now marks)
+fn take_text(here: &Start<'_>, chars: &mut [u8], attrs: &[u8]) -> Turn
+    requires { here.now.reader.phase ≡ Rest }
+    ensures { (marks : List ℕ) → QuietTurns here.now (screen chars.old attrs.now marks)
         result (screen chars.new attrs.now marks) }
 {
     let stretch = data_at(here.input, here.from);
@@ -164,9 +164,9 @@ fn take_text(here: Start, chars: &mut [u8], attrs: &[u8]) -> Turn
 
 // In the subnegotiation of this option: its bytes up to the next IAC, and that IAC.
 #[tactic(auto, using(crate::proofs::QuietLaws::lies))]
-fn take_payload(option: u8, here: Start) -> Turn
-    requires { here.reader.phase ≡ Inside option }
-    ensures { (b : Screen) → QuietTurns here.entry b result b }
+fn take_payload(option: u8, here: &Start<'_>) -> Turn
+    requires { here.now.reader.phase ≡ Inside option }
+    ensures { (b : Screen) → QuietTurns here.now b result b }
 {
     let stretch = payload_at(option, here.input, here.from);
     let bytes = &here.input[here.from..stretch.end];
@@ -184,8 +184,8 @@ fn take_payload(option: u8, here: Start) -> Turn
 
 // The stretch that the reader stands in, if it stands in one. It draws no reply.
 #[tactic(auto, using(crate::proofs::QuietLaws::run_none))]
-fn take_stretch(here: Start, chars: &mut [u8], attrs: &[u8]) -> Turn
-    ensures { (marks : List ℕ) → QuietTurns here.entry (screen chars.old attrs.now marks)
+fn take_stretch(here: &Start<'_>, chars: &mut [u8], attrs: &[u8]) -> Turn
+    ensures { (marks : List ℕ) → QuietTurns here.now (screen chars.old attrs.now marks)
         result (screen chars.new attrs.now marks) }
 {
     match here.reader.phase {
@@ -202,15 +202,15 @@ fn take_stretch(here: Start, chars: &mut [u8], attrs: &[u8]) -> Turn
 
 // A stretch, and what is told after it.
 pub(crate) fn take_turn(
-    here: Start,
+    here: &Start<'_>,
     chars: &mut [u8],
     attrs: &mut [u8],
     marks: &mut [u8],
     reply: &mut Reply<'_>,
 ) -> Turn
-    requires { AcceptsTurn here (lent chars.old attrs.old marks.old) reply.old }
-    ensures onward { here.entry.from < result.end }
-    ensures turns { Turns here.entry (lent chars.old attrs.old marks.old) reply.old
+    requires { AcceptsTurn here.now (lent chars.old attrs.old marks.old) reply.old }
+    ensures onward { here.now.from < result.end }
+    ensures turns { Turns here.now (lent chars.old attrs.old marks.old) reply.old
         result (lent chars.new attrs.new marks.new) reply.new }
 {
     let stretch = take_stretch(here, chars, attrs);
@@ -224,5 +224,5 @@ pub(crate) fn take_turn(
         reader: stretch.reader,
         lf: here.lf,
     };
-    take_told(next, chars, attrs, marks, reply)
+    take_told(&next, chars, attrs, marks, reply)
 }

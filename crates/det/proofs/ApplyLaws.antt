@@ -1,9 +1,9 @@
 -- Laws of changes: REPEAT is done one character at a time, and every other edit at once.
-use Rattle.std.proofs.Common.{◌≡◌, refl, sym, List, ◌++◌, ℕ, zero, suc, ◌≤◌, arith}
+use Rattle.std.proofs.Common.{◌≡◌, refl, sym, ap, ◌∙◌, List, ◌++◌, ℕ, zero, suc, ◌≤◌, arith}
 use Rattle.words.proofs.Laws.{either}
 use Rattle.rules.specs.declared.Edition.{Edition}
 use Rattle.rules.specs.declared.Frame.{Frame}
-use Rattle.rules.specs.Session.{Screen, View, view}
+use Rattle.rules.specs.Session.{Screen, View, placed, view}
 use Rattle.rules.specs.Effect.{Effect, changed_all, changing, spelled_all}
 use Rattle.rules.specs.Telnet.{host_character, host_characters}
 use Rattle.rules.specs.Cursor.{cursor_guarded}
@@ -18,7 +18,10 @@ use Rattle.reply.specs.Written.{Puts}
 use Rattle.reply.specs.Pieces.{say_pieces}
 use Rattle.reply.specs.Inner.Reply.{Sayable}
 use Rattle.reply.proofs.ReplyLaws.{said}
+use Rattle.text.specs.declared.canvas.Canvas.{Canvas}
 use Rattle.text.specs.Text.{Changes}
+use Rattle.text.specs.Canvas.{shown, Kept, Draws}
+use Rattle.text.proofs.CanvasLaws.{kept_none, kept_on}
 use Rattle.det.specs.Inner.Apply.{Emits}
 
 -- what can be said is put as its bytes
@@ -26,15 +29,25 @@ pub puts_said : {e : Edition} {say : Say} {b : Screen} {r r' : Reply} → Sayabl
     → Puts r (say_pieces e b.chars b.attrs b.marks say) r' → Emits r (spelled_all b (parts_of e b.attrs say)) r'
 puts_said s p = record { same_buffer = p.same_buffer; emitted = said s p.wrote }
 
+-- what becomes of the lent characters in the end
+pub draws_end : {e : Effect} {c c' : Canvas} → Draws e c c' → {chars : List ℕ}
+    → (c.chars.ghost_name ≡ c'.chars.ghost_name → chars ≡ c'.chars.now) → Changes e c.chars.now c.attrs.now c'.frame chars
+draws_end d lent = record { frame = d.changes.frame; characters = lent (sym d.kept.buffer) ∙ d.changes.characters }
+
+-- the canvas with other characters
+abbrev with_chars : Canvas → List ℕ → Canvas
+with_chars c chars' = record c { chars = record c.chars { now = chars' } }
+
 -- an edit that is done at once leaves the frame as it is
-pub changes_once : (edit : Edit) {f : Frame} {chars attrs chars' : List ℕ} → Once edit
-    → chars' ≡ changed_all chars attrs (changes_of edit) → Changes (edited (view f attrs) edit) chars attrs f chars'
-changes_once edit {f} {attrs = attrs} once e = rw (once (view f attrs)) (record { frame = refl; characters = e })
+pub draws_once : (edit : Edit) {c : Canvas} {chars' : List ℕ} → Once edit
+    → chars' ≡ changed_all c.chars.now c.attrs.now (changes_of edit) → Draws (edited (shown c) edit) c (with_chars c chars')
+draws_once edit {c} once e =
+    rw (once (shown c)) (record { kept = record { buffer = refl; attrs = refl }; frame = refl; changes = record { frame = refl; characters = e } })
 
 -- and no edit the characters too
-pub changes_none : (f : Frame) (chars attrs : List ℕ) → Changes (edited (view f attrs) Nothing) chars attrs f chars
+pub draws_none : (c : Canvas) → Draws (edited (shown c) Nothing) c c
 unfolding changed_all
-changes_none f chars attrs = changes_once Nothing (λ v. refl) refl
+draws_none c = draws_once Nothing (λ v. refl) refl
 
 -- what an edit marks
 pub marking_of_lem : (v : View) (edit : Edit) → (edited v edit).marking ≡ marking_of edit
@@ -59,24 +72,29 @@ one_less : (k : ℕ) (v : View) (c : ℕ) → let rest = host_characters k (host
 unfolding host_characters
 one_less k v c = refl
 
--- n characters from a frame and these characters on: what k more do from here is what they all do
-pub record Repeating (attrs : List ℕ) (c n : ℕ) (f₀ : Frame) (chars₀ : List ℕ) (k : ℕ) (f : Frame) (chars : List ℕ) : Type 0 where
-  pub all : {f' : Frame} {chars' : List ℕ} → Changes (host_characters k (view f attrs) c) chars attrs f' chars'
-      → Changes (host_characters n (view f₀ attrs) c) chars₀ attrs f' chars'
+-- n characters from a canvas on: what k more do from here is what they all do
+pub record Repeating (b n : ℕ) (c₀ : Canvas) (k : ℕ) (c : Canvas) : Type 0 where
+  pub kept : Kept c₀ c
+  pub frame : c.frame ≡ placed c₀.frame c.frame.cursor
+  pub all : {f' : Frame} {chars' : List ℕ}
+      → Changes (host_characters k (view c.frame c₀.attrs.now) b) c.chars.now c₀.attrs.now f' chars'
+      → Changes (host_characters n (shown c₀) b) c₀.chars.now c₀.attrs.now f' chars'
 
-pub repeating_start : {attrs : List ℕ} {c n k : ℕ} {f : Frame} {chars : List ℕ} → k ≡ n → Repeating attrs c n f chars k f chars
-repeating_start e = rw e (record { all = λ d. d })
+pub repeating_start : {b n k : ℕ} {c : Canvas} → k ≡ n → Repeating b n c k c
+repeating_start e = rw e (record { kept = kept_none; frame = refl; all = λ d. d })
 
-module _ {attrs : List ℕ} {c n : ℕ} {f₀ : Frame} {chars₀ : List ℕ} {k : ℕ} {f : Frame} {chars : List ℕ}
-    (r : Repeating attrs c n f₀ chars₀ k f chars) where
+module _ {b n : ℕ} {c₀ : Canvas} {k : ℕ} {c : Canvas} (r : Repeating b n c₀ k c) where
   -- one more is done
-  pub repeating_more : {j : ℕ} {f' : Frame} {chars' : List ℕ} → k ≡ suc j → Changes (host_character (view f attrs) c) chars attrs f' chars'
-      → Repeating attrs c n f₀ chars₀ j f' chars'
-  repeating_more {j} {f'} e one = record {
+  pub repeating_more : {j : ℕ} {c' : Canvas} → k ≡ suc j → Draws (host_character (shown c) b) c c' → Repeating b n c₀ j c'
+  repeating_more {j} {c'} e done = record {
+    kept = kept_on r.kept done.kept;
+    frame = done.frame ∙ ap (λ (f : Frame). placed f c'.frame.cursor) r.frame;
     all = λ d.
-        let v = view f attrs in
-        let after : view f' attrs ≡ (host_character v c).view = λ i. record { frame = one.frame i; attrs = sym (host_attrs v c) i } in
-        let less = one_less j v c in
+        let one = rw r.kept.attrs at done.changes in
+        let v = view c.frame c₀.attrs.now in
+        let after : view c'.frame c₀.attrs.now ≡ (host_character v b).view =
+        λ i. record { frame = one.frame i; attrs = sym (host_attrs v b) i } in
+        let less = one_less j v b in
         r.all (record {
           frame = rw (e, less, ← after) d.frame;
           characters = rw (e, less, changed_append, ← after, ← one.characters) d.characters;
@@ -84,6 +102,8 @@ module _ {attrs : List ℕ} {c n : ℕ} {f₀ : Frame} {chars₀ : List ℕ} {k 
   }
 
   -- none is left
-  pub repeating_end : k ≤ 0 → Changes (host_characters n (view f₀ attrs) c) chars₀ attrs f chars
+  pub repeating_end : k ≤ 0 → Draws (host_characters n (shown c₀) b) c₀ c
   unfolding host_characters changed_all
-  repeating_end h = let e : k ≡ 0 = omega arith in r.all (rw e (record { frame = refl; characters = refl }))
+  repeating_end h =
+      let e : k ≡ 0 = omega arith in
+      record { kept = r.kept; frame = r.frame; changes = r.all (rw e (record { frame = refl; characters = refl })) }

@@ -23,7 +23,10 @@ use Rattle.reply.specs.declared.Reply.{Reply}
 use Rattle.command.specs.Inner.Frame.{Fits}
 use Rattle.decide.specs.Decision.{meant, shown, parts_of, Sendable, Decides, ended_det}
 use Rattle.reply.specs.Inner.Reply.{Sayable}
+use Rattle.text.specs.declared.canvas.Canvas.{Canvas}
 use Rattle.text.specs.Text.{Changes}
+use Rattle.text.specs.Canvas.{Draws}
+use Rattle.text.proofs.CanvasLaws.{kept_none}
 use Rattle.det.specs.Inner.Data.{data_effect, told_effect, det_effect}
 use Rattle.det.specs.Inner.Apply.{Emits, Applies, Answerable}
 use Rattle.det.specs.Inner.Take.{Accepts}
@@ -89,15 +92,15 @@ effect_only v lf cr b =
     ((line_takes_keys v.frame && not lf) && (cr && eqb b 10)) {x = quiet v} (λ t. refl) (λ t. data_only v b)
 
 -- passed over, or obeyed
-module _ (f : Frame) (lf cr : Bool) (byte : ℕ) {chars attrs : List ℕ} where
-  pub data_passed : ((line_takes_keys f && not lf) && (cr && eqb byte 10)) ≡ true → Changes (data_effect (view f attrs) lf cr byte) chars attrs f chars
+module _ (c : Canvas) (lf cr : Bool) (byte : ℕ) where
+  pub data_passed : ((line_takes_keys c.frame && not lf) && (cr && eqb byte 10)) ≡ true → Draws (data_effect (view c.frame c.attrs.now) lf cr byte) c c
   unfolding data_effect changed_all
-  data_passed e = rw e (record { frame = refl; characters = refl })
+  data_passed e = rw e (record { kept = kept_none; frame = refl; changes = record { frame = refl; characters = refl } })
 
-  pub data_obeyed : {f' : Frame} {chars' : List ℕ} → ((line_takes_keys f && not lf) && (cr && eqb byte 10)) ≡ false
-      → Changes (host_data (view f attrs) byte) chars attrs f' chars' → Changes (data_effect (view f attrs) lf cr byte) chars attrs f' chars'
+  pub data_obeyed : {c' : Canvas} → ((line_takes_keys c.frame && not lf) && (cr && eqb byte 10)) ≡ false
+      → Draws (host_data (view c.frame c.attrs.now) byte) c c' → Draws (data_effect (view c.frame c.attrs.now) lf cr byte) c c'
   unfolding data_effect
-  data_obeyed e c = rw e c
+  data_obeyed e d = rw e d
 
 pub data_applies : (f : Frame) (lf cr : Bool) (byte : ℕ) {f' : Frame} {b : Screen} {chars : List ℕ} {r : Reply}
     → Changes (data_effect (view f b.attrs) lf cr byte) b.chars b.attrs f' chars

@@ -2,21 +2,21 @@
 // bytes, then the marks.
 ghost use Rattle.std.specs.Prelude.{◌≡◌, if◌then◌else◌};
 ghost use Rattle.rules.specs.Effect.{changed_all, cleared, marks_after};
-ghost use Rattle.command.specs.Frame.{lent, seen};
+ghost use Rattle.command.specs.Frame.{lent};
 ghost use Rattle.decide.specs.Decision.{edited, attrs_of, meant};
 ghost use Rattle.decide.specs.Inner.Decision.{changes_of, marking_of};
 ghost use Rattle.reply.specs.Pieces.{say_pieces};
 ghost use Rattle.reply.specs.Written.{Puts};
 ghost use Rattle.reply.specs.Inner.Reply.{Sayable};
-ghost use Rattle.text.specs.Text.{Changes};
+ghost use Rattle.text.specs.Canvas.{shown, Draws};
 ghost use Rattle.det.specs.Inner.Apply.{Applies};
 
-use command::frame::moved;
 use decide::decision::{Decision, Edit, Fill, Say};
 use edit::range::{erase, fill, shift_range};
 use reply::{Reply, Screen};
 use rules::{Edition, Frame};
-use text::data::{put_character, set_cell};
+use text::canvas::Canvas;
+use text::data::set_cell;
 
 // A change other than REPEAT.
 #[tactic(auto, unfolding(rules::specs::Effect::changed, rules::specs::Effect::changed_all))]
@@ -41,28 +41,24 @@ fn change_cells(edit: Edit, chars: &mut [u8], attrs: &[u8])
 }
 
 // 37: a host character so many times.
-#[tactic(auto, using(crate::proofs::ApplyLaws::repeating_more, crate::proofs::ApplyLaws::repeating_end))]
-fn repeat(frame: Frame, count: u8, byte: u8, chars: &mut [u8], attrs: &[u8]) -> Frame
-    ensures { Changes (edited (seen frame attrs.now) (Edit.Repeat count byte))
-        chars.old attrs.now result chars.new }
+#[tactic(auto, using(crate::proofs::ApplyLaws::repeating_end))]
+fn repeat(canvas: &mut Canvas<'_>, count: u8, byte: u8)
+    ensures { Draws (edited (shown canvas.old) (Edit.Repeat count byte)) canvas.old canvas.new }
 {
-    let mut cursor = frame.cursor;
     for _done in 0..count {
-        cursor = put_character(moved(frame, cursor), byte, chars, attrs);
+        canvas.put_character(byte);
     }
-    moved(frame, cursor)
 }
 
-// The frame afterwards: REPEAT moves the cursor as it writes.
-#[tactic(auto, using(crate::proofs::ApplyLaws::changes_once))]
-pub(crate) fn change_chars(frame: Frame, edit: Edit, chars: &mut [u8], attrs: &[u8]) -> Frame
-    ensures { Changes (edited (seen frame attrs.now) edit) chars.old attrs.now result chars.new }
+// Of a frame, REPEAT moves the cursor as it writes.
+#[tactic(auto, using(crate::proofs::ApplyLaws::draws_once))]
+pub(crate) fn change_chars(canvas: &mut Canvas<'_>, edit: Edit)
+    ensures { Draws (edited (shown canvas.old) edit) canvas.old canvas.new }
 {
     let Edit::Repeat { count, byte } = edit else {
-        change_cells(edit, chars, attrs);
-        return frame;
+        return change_cells(edit, canvas.chars, canvas.attrs);
     };
-    repeat(frame, count, byte, chars, attrs)
+    repeat(canvas, count, byte);
 }
 
 fn format_attrs(format: Option<Fill>, attrs: &mut [u8])
@@ -109,12 +105,12 @@ fn say_any(edition: Edition, say: Say, screen: Screen<'_>, reply: &mut Reply<'_>
     }
 }
 
-fn change_any(frame: Frame, edit: Edit, chars: &mut [u8], attrs: &[u8]) -> Frame
-    ensures { Changes (edited (seen frame attrs.now) edit) chars.old attrs.now result chars.new }
+fn change_any(canvas: &mut Canvas<'_>, edit: Edit)
+    ensures { Draws (edited (shown canvas.old) edit) canvas.old canvas.new }
 {
     match edit {
-        Edit::Nothing => frame,
-        _ => change_chars(frame, edit, chars, attrs),
+        Edit::Nothing => {}
+        _ => change_chars(canvas, edit),
     }
 }
 
@@ -143,7 +139,13 @@ pub(crate) fn apply(
         marks,
     };
     say_any(decided.edition, say, screen, reply);
-    let frame = change_any(decided, edit, chars, attrs);
+    let mut canvas = Canvas {
+        frame: decided,
+        chars,
+        attrs,
+    };
+    change_any(&mut canvas, edit);
+    let frame = canvas.frame;
     format_attrs(format, attrs);
     mark(clear, edit, marks);
     frame

@@ -1,13 +1,13 @@
 // Host data in the session: an LF right after a CR may be passed over.
 ghost use Rattle.std.specs.Prelude.{◌≡◌, not, ◌&&◌, eqb};
 ghost use Rattle.rules.specs.Session.{line_takes_keys};
-ghost use Rattle.command.specs.Frame.{seen};
-ghost use Rattle.text.specs.Text.{Changes};
-ghost use Rattle.det.specs.Inner.Data.{data_effect, DataDone};
+ghost use Rattle.rules.specs.Telnet.{host_text};
+ghost use Rattle.text.specs.Text.{obeyed_bytes, ends_in_cr};
+ghost use Rattle.text.specs.Canvas.{shown, Draws};
+ghost use Rattle.det.specs.Inner.Data.{data_effect};
 
-use command::frame::moved;
 use rules::Frame;
-use text::data::{host_text, take_data};
+use text::canvas::Canvas;
 use text::joined::ends_in_cr;
 
 // Is CR LF printed as CR? `lf`: parameter 13 has it printed as such.
@@ -23,46 +23,21 @@ fn is_passed(frame: Frame, lf: bool, cr: bool, byte: u8) -> bool
     is_joining(frame, lf) && cr && byte == 10
 }
 
-// One byte of data: the frame after it.
-pub(crate) fn obey_data(
-    frame: Frame,
-    lf: bool,
-    cr: bool,
-    byte: u8,
-    chars: &mut [u8],
-    attrs: &[u8],
-) -> Frame
-    ensures { Changes (data_effect (seen frame attrs.now) lf cr byte)
-        chars.old attrs.now result chars.new }
+// One byte of data.
+pub(crate) fn obey_data(canvas: &mut Canvas<'_>, lf: bool, cr: bool, byte: u8)
+    ensures { Draws (data_effect (shown canvas.old) lf cr byte) canvas.old canvas.new }
 {
-    if is_passed(frame, lf, cr, byte) {
-        return frame;
+    if !is_passed(canvas.frame, lf, cr, byte) {
+        canvas.take_data(byte);
     }
-    let cursor = take_data(frame, byte, chars, attrs);
-    moved(frame, cursor)
 }
 
-// The frame after some data, and whether it ended in a CR.
-#[derive(Clone, Copy, Debug, PartialEq, Eq)]
-pub struct DataTurn {
-    pub frame: Frame,
-    pub cr: bool,
-}
-
-// A stretch of data.
-pub(crate) fn take_bytes(
-    frame: Frame,
-    lf: bool,
-    cr: bool,
-    bytes: &[u8],
-    chars: &mut [u8],
-    attrs: &[u8],
-) -> DataTurn
-    ensures { DataDone (seen frame attrs.now) lf cr bytes.now chars.old result chars.new }
+// A stretch of data: does it end in a CR?
+pub(crate) fn take_bytes(canvas: &mut Canvas<'_>, lf: bool, cr: bool, bytes: &[u8]) -> bool
+    ensures draws { Draws (host_text (shown canvas.old) (obeyed_bytes (line_takes_keys canvas.old.frame && not lf) cr bytes.now))
+        canvas.old canvas.new }
+    ensures ends { result ≡ ends_in_cr cr bytes.now }
 {
-    let joins = is_joining(frame, lf);
-    DataTurn {
-        frame: host_text(frame, joins, cr, bytes, chars, attrs),
-        cr: ends_in_cr(cr, bytes),
-    }
+    canvas.host_text(is_joining(canvas.frame, lf), cr, bytes);
+    ends_in_cr(cr, bytes)
 }

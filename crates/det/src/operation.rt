@@ -20,6 +20,7 @@ use pad::host::prints_lf;
 use pad::message::idle;
 use reply::{Reply, Screen};
 use rules::{Answer, Session, Verdict};
+use text::canvas::Canvas;
 
 // Host bytes that are not refused: taken from the front while there are any and the reply buffer has room for one more reply.
 fn take_all(
@@ -136,7 +137,13 @@ fn take_meaning(
         marks,
     };
     reply.say(decided.edition, decision.say, screen);
-    let frame = change_chars(decided, decision.edit, chars, attrs);
+    let mut canvas = Canvas {
+        frame: decided,
+        chars,
+        attrs,
+    };
+    change_chars(&mut canvas, decision.edit);
+    let frame = canvas.frame;
     mark(decision.clear, decision.edit, marks);
     Answer {
         session: Session { frame, ..session },
@@ -162,10 +169,15 @@ fn take_line(
 {
     let pad = session.pad;
     let written = send_line(pad, code, reply);
-    let frame = echo_key(session.frame, pad, code, chars, attrs);
+    let mut canvas = Canvas {
+        frame: session.frame,
+        chars,
+        attrs,
+    };
+    echo_key(&mut canvas, pad, code);
     Answer {
         session: Session {
-            frame,
+            frame: canvas.frame,
             pad: type_key(pad, code),
             ..session
         },

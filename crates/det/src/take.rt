@@ -23,6 +23,7 @@ use rules::{Frame, Held, Reader};
 use telnet::ahead::look_ahead;
 use telnet::stretch::{data_at, payload_at};
 use telnet::{Event, Phase};
+use text::canvas::Canvas;
 
 // Where some bytes leave the frame and the reader, what was told last, and where they end in the input. The PAD is left to the caller, who
 // tells it: it is large, and a turn is short.
@@ -66,13 +67,22 @@ fn happen(
     marks: &mut [u8],
     reply: &mut Reply<'_>,
 ) -> Frame
-    requires { Answerable (effect_at here.now told attrs.old) here.now.frame (lent chars.old attrs.old marks.old) reply.old.buffer.now reply.old.at }
+    requires { Answerable (effect_at here.now told attrs.old) here.now.frame (lent chars.old attrs.old marks.old)
+        reply.old.buffer.now reply.old.at }
     ensures { Applies (effect_at here.now told attrs.old)
         (lent chars.old attrs.old marks.old) reply.old
         result (lent chars.new attrs.new marks.new) reply.new }
 {
     match told.event {
-        Event::Data(byte) => obey_data(here.frame, here.lf, here.reader.cr, byte, chars, attrs),
+        Event::Data(byte) => {
+            let mut canvas = Canvas {
+                frame: here.frame,
+                chars,
+                attrs,
+            };
+            obey_data(&mut canvas, here.lf, here.reader.cr, byte);
+            canvas.frame
+        }
         _ => {
             let decision = decide_event(here.frame, attrs, told.held, told.event);
             apply(decision, chars, attrs, marks, reply)
@@ -149,12 +159,17 @@ fn take_text(here: &Start<'_>, chars: &mut [u8], attrs: &[u8]) -> Turn
 {
     let stretch = data_at(here.input, here.from);
     let bytes = &here.input[here.from..stretch.end];
-    let done = take_bytes(here.frame, here.lf, here.reader.cr, bytes, chars, attrs);
+    let mut canvas = Canvas {
+        frame: here.frame,
+        chars,
+        attrs,
+    };
+    let cr = take_bytes(&mut canvas, here.lf, here.reader.cr, bytes);
     Turn {
-        frame: done.frame,
+        frame: canvas.frame,
         reader: Reader {
             phase: stretch.phase,
-            cr: done.cr,
+            cr,
             ..here.reader
         },
         event: Event::Nothing,

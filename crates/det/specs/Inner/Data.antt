@@ -1,21 +1,14 @@
 -- Host data in the session, and what is done on an event that is no end of a message of option 30.
-use Rattle.std.specs.Prelude.{◌≡◌, Bool, not, ◌&&◌, List, ℕ, eqb, if◌then◌else◌}
+use Rattle.std.specs.Prelude.{Bool, not, ◌&&◌, ℕ, eqb, if◌then◌else◌}
 use Rattle.telnet.specs.declared.Event.{Event}
 use Rattle.telnet.specs.declared.Event.TheVariants.{Nothing, Data, Negotiation, Begin, Sub, End, EndBare, Lost}
 use Rattle.rules.specs.declared.Held.{Held}
 use Rattle.rules.specs.Session.{View, line_takes_keys}
 use Rattle.rules.specs.Effect.{Effect, quiet}
-use Rattle.rules.specs.Telnet.{negotiated, host_data, host_text}
+use Rattle.rules.specs.Telnet.{negotiated, host_data}
 use Rattle.decide.specs.Decision.{ended_det}
-use Rattle.text.specs.Text.{Changes, obeyed_bytes, ends_in_cr}
-use Rattle.det.specs.declared.data.DataTurn.{DataTurn}
 
--- what some bytes do: lf tells whether CR LF is printed as such, cr whether a CR came last before them
-pub record DataDone (v : View) (lf cr : Bool) (bytes chars : List ℕ) (t : DataTurn) (chars' : List ℕ) : Type 0 where
-  pub done : Changes (host_text v (obeyed_bytes (line_takes_keys v.frame && not lf) cr bytes)) chars v.attrs t.frame chars'
-  pub ends : t.cr ≡ ends_in_cr cr bytes
-
--- one byte of it
+-- a byte of data: lf tells whether CR LF is printed as such, cr whether a CR came last before it
 unfoldable pub data_effect : View → Bool → Bool → ℕ → Effect
 data_effect v lf cr b = if (line_takes_keys v.frame && not lf) && (cr && eqb b 10) then quiet v else host_data v b
 

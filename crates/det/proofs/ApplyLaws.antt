@@ -45,9 +45,9 @@ draws_once edit {c} once e =
     rw (once (shown c)) (record { kept = record { buffer = refl; attrs = refl }; frame = refl; changes = record { frame = refl; characters = e } })
 
 -- and no edit the characters too
-pub draws_none : (c : Canvas) → Draws (edited (shown c) Nothing) c c
+pub changes_none : (f : Frame) (chars attrs : List ℕ) → Changes (edited (view f attrs) Nothing) chars attrs f chars
 unfolding changed_all
-draws_none c = draws_once Nothing (λ v. refl) refl
+changes_none f chars attrs = record { frame = refl; characters = refl }
 
 -- what an edit marks
 pub marking_of_lem : (v : View) (edit : Edit) → (edited v edit).marking ≡ marking_of edit

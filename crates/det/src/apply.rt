@@ -2,12 +2,13 @@
 // bytes, then the marks.
 ghost use Rattle.std.specs.Prelude.{◌≡◌, if◌then◌else◌};
 ghost use Rattle.rules.specs.Effect.{changed_all, cleared, marks_after};
-ghost use Rattle.command.specs.Frame.{lent};
+ghost use Rattle.command.specs.Frame.{lent, seen};
 ghost use Rattle.decide.specs.Decision.{edited, attrs_of, meant};
 ghost use Rattle.decide.specs.Inner.Decision.{changes_of, marking_of};
 ghost use Rattle.reply.specs.Pieces.{say_pieces};
 ghost use Rattle.reply.specs.Written.{Puts};
 ghost use Rattle.reply.specs.Inner.Reply.{Sayable};
+ghost use Rattle.text.specs.Text.{Changes};
 ghost use Rattle.text.specs.Canvas.{shown, Draws};
 ghost use Rattle.det.specs.Inner.Apply.{Applies};
 
@@ -105,13 +106,19 @@ fn say_any(edition: Edition, say: Say, screen: Screen<'_>, reply: &mut Reply<'_>
     }
 }
 
-fn change_any(canvas: &mut Canvas<'_>, edit: Edit)
-    ensures { Draws (edited (shown canvas.old) edit) canvas.old canvas.new }
+fn change_any(frame: Frame, edit: Edit, chars: &mut [u8], attrs: &[u8]) -> Frame
+    ensures { Changes (edited (seen frame attrs.now) edit) chars.old attrs.now result chars.new }
 {
-    match edit {
-        Edit::Nothing => {}
-        _ => change_chars(canvas, edit),
+    if let Edit::Nothing = edit {
+        return frame;
     }
+    let mut canvas = Canvas {
+        frame,
+        chars,
+        attrs,
+    };
+    change_chars(&mut canvas, edit);
+    canvas.frame
 }
 
 pub(crate) fn apply(
@@ -139,13 +146,7 @@ pub(crate) fn apply(
         marks,
     };
     say_any(decided.edition, say, screen, reply);
-    let mut canvas = Canvas {
-        frame: decided,
-        chars,
-        attrs,
-    };
-    change_any(&mut canvas, edit);
-    let frame = canvas.frame;
+    let frame = change_any(decided, edit, chars, attrs);
     format_attrs(format, attrs);
     mark(clear, edit, marks);
     frame

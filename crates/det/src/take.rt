@@ -61,15 +61,15 @@ fn decide_event(frame: Frame, attrs: &[u8], held: Held, event: Event) -> Decisio
 #[tactic(auto, unfolding(crate::specs::Inner::Data::det_effect))]
 fn happen(
     here: &Start<'_>,
-    told: Told,
+    told: &Told,
     chars: &mut [u8],
     attrs: &mut [u8],
     marks: &mut [u8],
     reply: &mut Reply<'_>,
 ) -> Frame
-    requires { Answerable (effect_at here.now told attrs.old) here.now.frame (lent chars.old attrs.old marks.old)
+    requires { Answerable (effect_at here.now told.now attrs.old) here.now.frame (lent chars.old attrs.old marks.old)
         reply.old.buffer.now reply.old.at }
-    ensures { Applies (effect_at here.now told attrs.old)
+    ensures { Applies (effect_at here.now told.now attrs.old)
         (lent chars.old attrs.old marks.old) reply.old
         result (lent chars.new attrs.new marks.new) reply.new }
 {
@@ -141,7 +141,7 @@ fn take_told(
         result (lent chars.new attrs.new marks.new) reply.new }
 {
     let told = told_at(here);
-    let frame = happen(here, told, chars, attrs, marks, reply);
+    let frame = happen(here, &told, chars, attrs, marks, reply);
     Turn {
         frame,
         reader: told.reader,

@@ -141,42 +141,42 @@ module _ (h : Start) (b : Screen) (r : Reply) {t : Told} (k : TellsNext h t) whe
   abbrev tells_effect : Effect
   tells_effect = effect_at h t b.attrs
 
-  module _ (p : Pad) (prints : prints_lf p.values ≡ h.lf) (a : Accepts (state (session h.frame h.reader p) b) r.buffer.now r.at) where
+  module _ (p : Pad) (prints : prints_lf p.values ≡ h.lf) (a : Accepts (state (session h.frame.now h.reader.now p) b) r.buffer.now r.at) where
     -- the state before the byte that tells it
     abbrev mid : State
-    mid = state (session h.frame (record { phase = k.phase; held = t.held; cr = h.reader.cr }) (k.before p)) b
+    mid = state (session h.frame.now (record { phase = k.phase; held = t.held; cr = h.reader.now.cr }) (k.before p)) b
 
     mid_accepts : Accepts mid r.buffer.now r.at
-    mid_accepts = accepts_run (state (session h.frame h.reader p) b) r a (k.quiet h.frame p b)
+    mid_accepts = accepts_run (state (session h.frame.now h.reader.now p) b) r a (k.quiet h.frame.now p b)
 
-    same_effect : happening (view h.frame b.attrs) mid.session.reader (k.before p) t.event ≡ tells_effect
+    same_effect : happening (view h.frame.now b.attrs) mid.session.reader (k.before p) t.event ≡ tells_effect
     same_effect = det_effect_lem _ _ _ _ k.unasked ∙ rw (k.values p, prints)
 
     -- the reply to it can be written
-    answerable : Answerable tells_effect h.frame b r.buffer.now r.at
+    answerable : Answerable tells_effect h.frame.now b r.buffer.now r.at
     answerable = rw (← same_effect) (byte_answerable mid r mid_accepts (get_or h.input.now k.last 0) k.step)
 
     -- and what is done is what the bytes do
     taking : {f : Frame} {b' : Screen} {r' : Reply} → Applies tells_effect b r f b' r'
-        → Taking (state (session h.frame h.reader p) b) h.input.now h.from r
-        (state (session f t.reader (pad_after h.frame p t.event)) b') t.next r'
+        → Taking (state (session h.frame.now h.reader.now p) b) h.input.now h.from r
+        (state (session f t.reader (pad_after h.frame.now p t.event)) b') t.next r'
     taking d =
         let byte = get_or h.input.now k.last 0 in
-        let run = k.quiet h.frame p b in
+        let run = k.quiet h.frame.now p b in
         let does = rw (← same_effect) at d in
-        let stands : t.reader ≡ record { phase = t.reader.phase; held = held_after t.held t.event; cr = cr_after h.reader.cr t.event } =
+        let stands : t.reader ≡ record { phase = t.reader.phase; held = held_after t.held t.event; cr = cr_after h.reader.now.cr t.event } =
         λ i. record { phase = t.reader.phase; held = k.held i; cr = k.cr i } in
         let ends = byte_state mid r mid_accepts byte k.step does stands in
-        let one = taking_byte mid r mid_accepts k.lies (rw (k.pad h.frame p) at ends) (byte_replies mid r mid_accepts byte k.step does) in
-        rw k.next (taking_then (taking_run (state (session h.frame h.reader p) b) r a run) one)
+        let one = taking_byte mid r mid_accepts k.lies (rw (k.pad h.frame.now p) at ends) (byte_replies mid r mid_accepts byte k.step does) in
+        rw k.next (taking_then (taking_run (state (session h.frame.now h.reader.now p) b) r a run) one)
 
-  pub told_answerable : AcceptsTurn h b r → Answerable tells_effect h.frame b r.buffer.now r.at
+  pub told_answerable : AcceptsTurn h b r → Answerable tells_effect h.frame.now b r.buffer.now r.at
   told_answerable a = answerable (fresh_with h.lf) (fresh_prints h.lf) a
 
   pub told_turns : {f : Frame} {b' : Screen} {r' : Reply} → Applies tells_effect b r f b' r'
       → (h.from < t.next) × Turns h b r (record { frame = f; reader = t.reader; event = t.event; end = t.next }) b' r'
   told_turns d =
-      (omega (arith, (k.quiet h.frame (fresh_with h.lf) b).onward, k.next), λ p prints a. taking p prints a d)
+      (omega (arith, (k.quiet h.frame.now (fresh_with h.lf) b).onward, k.next), λ p prints a. taking p prints a d)
 
 -- ---- a stretch, and what is told after it
 
@@ -197,12 +197,12 @@ pad_by_x3 f g p Lost h = refl
 
 module _ (h : Start) {b b₁ : Screen} {t : Turn} (r : Reply) (q : QuietTurns h b t b₁) where
   abbrev quiet : (p : Pad) → prints_lf p.values ≡ h.lf
-      → QuietRun (state (session h.frame h.reader p) b) h.input.now h.from (state (session t.frame t.reader p) b₁) t.end
+      → QuietRun (state (session h.frame.now h.reader.now p) b) h.input.now h.from (state (session t.frame t.reader p) b₁) t.end
   quiet p prints = (q p prints).run
 
   pub stretch_accepts : AcceptsTurn h b r → Accepts (state (session t.frame t.reader (fresh_with h.lf)) b₁) r.buffer.now r.at
   stretch_accepts a =
-      accepts_run (state (session h.frame h.reader (fresh_with h.lf)) b) r a (quiet (fresh_with h.lf) (fresh_prints h.lf))
+      accepts_run (state (session h.frame.now h.reader.now (fresh_with h.lf)) b) r a (quiet (fresh_with h.lf) (fresh_prints h.lf))
 
   pub stretch_outside : in_message t.reader.phase ≡ false
   stretch_outside = (q (fresh_with h.lf) (fresh_prints h.lf)).stands
@@ -214,7 +214,7 @@ module _ (h : Start) {b b₁ : Screen} {t : Turn} (r : Reply) (q : QuietTurns h 
   pub stretch_turns : Turns h b r t b₁ r
   unfolding pad_after
   stretch_turns p prints a =
-      rw (q p prints).nothing (taking_run (state (session h.frame h.reader p) b) r a (quiet p prints))
+      rw (q p prints).nothing (taking_run (state (session h.frame.now h.reader.now p) b) r a (quiet p prints))
 
   -- and more
   pub then_turns : (u : Turn) {b₂ : Screen} {r' : Reply}
@@ -224,9 +224,9 @@ module _ (h : Start) {b b₁ : Screen} {t : Turn} (r : Reply) (q : QuietTurns h 
       → Turns h b r u b₂ r'
   then_turns u w p prints a =
       let run = quiet p prints in
-      let rest = w p prints (accepts_run (state (session h.frame h.reader p) b) r a run) in
-      taking_then (taking_run (state (session h.frame h.reader p) b) r a run)
-      (rw (pad_by_x3 t.frame h.frame p u.event (q p prints).x3) at rest)
+      let rest = w p prints (accepts_run (state (session h.frame.now h.reader.now p) b) r a run) in
+      taking_then (taking_run (state (session h.frame.now h.reader.now p) b) r a run)
+      (rw (pad_by_x3 t.frame h.frame.now p u.event (q p prints).x3) at rest)
 
 -- ---- a whole call
 

@@ -60,8 +60,8 @@ fn take_all(
         let start = Start {
             input,
             from,
-            frame,
-            reader,
+            frame: &frame,
+            reader: &reader,
             lf,
         };
         let turn = take_turn(&start, chars, attrs, marks, &mut reply);

@@ -22,9 +22,9 @@ pub(crate) fn in_message(phase: Phase) -> bool
 pub struct Start<'a> {
     pub input: &'a [u8],
     pub from: usize,
-    pub frame: Frame,
-    pub reader: Reader,
+    pub frame: &'a Frame,
+    pub reader: &'a Reader,
     pub lf: bool,
-    ghost outside: { in_message reader.phase ≡ false },
+    ghost outside: { in_message reader.now.phase ≡ false },
     ghost more: { from < length input.now },
 }

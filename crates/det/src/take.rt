@@ -67,7 +67,7 @@ fn happen(
     marks: &mut [u8],
     reply: &mut Reply<'_>,
 ) -> Frame
-    requires { Answerable (effect_at here.now told.now attrs.old) here.now.frame (lent chars.old attrs.old marks.old)
+    requires { Answerable (effect_at here.now told.now attrs.old) here.now.frame.now (lent chars.old attrs.old marks.old)
         reply.old.buffer.now reply.old.at }
     ensures { Applies (effect_at here.now told.now attrs.old)
         (lent chars.old attrs.old marks.old) reply.old
@@ -76,7 +76,7 @@ fn happen(
     match told.event {
         Event::Data(byte) => {
             let mut canvas = Canvas {
-                frame: here.frame,
+                frame: *here.frame,
                 chars,
                 attrs,
             };
@@ -84,7 +84,7 @@ fn happen(
             canvas.frame
         }
         _ => {
-            let decision = decide_event(here.frame, attrs, told.held, told.event);
+            let decision = decide_event(*here.frame, attrs, told.held, told.event);
             apply(decision, chars, attrs, marks, reply)
         }
     }
@@ -122,7 +122,7 @@ fn told_at(here: &Start<'_>) -> Told
             },
             next: sub.next,
         },
-        _ => told_byte(reader, input[here.from], here.from + 1),
+        _ => told_byte(*reader, input[here.from], here.from + 1),
     }
 }
 
@@ -153,14 +153,14 @@ fn take_told(
 // At rest: the data up to the next IAC, and that IAC.
 #[tactic(auto, using(crate::proofs::QuietLaws::lies))]
 fn take_text(here: &Start<'_>, chars: &mut [u8], attrs: &[u8]) -> Turn
-    requires { here.now.reader.phase ≡ Rest }
+    requires { here.now.reader.now.phase ≡ Rest }
     ensures { (marks : List ℕ) → QuietTurns here.now (screen chars.old attrs.now marks)
         result (screen chars.new attrs.now marks) }
 {
     let stretch = data_at(here.input, here.from);
     let bytes = &here.input[here.from..stretch.end];
     let mut canvas = Canvas {
-        frame: here.frame,
+        frame: *here.frame,
         chars,
         attrs,
     };
@@ -170,7 +170,7 @@ fn take_text(here: &Start<'_>, chars: &mut [u8], attrs: &[u8]) -> Turn
         reader: Reader {
             phase: stretch.phase,
             cr,
-            ..here.reader
+            ..*here.reader
         },
         event: Event::Nothing,
         end: stretch.next,
@@ -180,17 +180,17 @@ fn take_text(here: &Start<'_>, chars: &mut [u8], attrs: &[u8]) -> Turn
 // In the subnegotiation of this option: its bytes up to the next IAC, and that IAC.
 #[tactic(auto, using(crate::proofs::QuietLaws::lies))]
 fn take_payload(option: u8, here: &Start<'_>) -> Turn
-    requires { here.now.reader.phase ≡ Inside option }
+    requires { here.now.reader.now.phase ≡ Inside option }
     ensures { (b : Screen) → QuietTurns here.now b result b }
 {
     let stretch = payload_at(option, here.input, here.from);
     let bytes = &here.input[here.from..stretch.end];
     Turn {
-        frame: here.frame,
+        frame: *here.frame,
         reader: Reader {
             phase: stretch.phase,
             held: hold_all(here.reader.held, bytes),
-            ..here.reader
+            ..*here.reader
         },
         event: Event::Nothing,
         end: stretch.next,
@@ -207,8 +207,8 @@ fn take_stretch(here: &Start<'_>, chars: &mut [u8], attrs: &[u8]) -> Turn
         Phase::Rest => take_text(here, chars, attrs),
         Phase::Inside(option) => take_payload(option, here),
         _ => Turn {
-            frame: here.frame,
-            reader: here.reader,
+            frame: *here.frame,
+            reader: *here.reader,
             event: Event::Nothing,
             end: here.from,
         },
@@ -235,8 +235,8 @@ pub(crate) fn take_turn(
     let next = Start {
         input: here.input,
         from: stretch.end,
-        frame: stretch.frame,
-        reader: stretch.reader,
+        frame: &stretch.frame,
+        reader: &stretch.reader,
         lf: here.lf,
     };
     take_told(&next, chars, attrs, marks, reply)

@@ -36,7 +36,7 @@ abbrev pub fresh_with : Bool → Pad
 fresh_with lf = pad_with (with_pair start_values 13 (if lf then 1 else 0)) (line_of []) idle_message
 
 abbrev pub AcceptsTurn : Start → Screen → Reply → Type 0
-AcceptsTurn h b r = Accepts (state (session h.frame h.reader (fresh_with h.lf)) b) r.buffer.now r.at
+AcceptsTurn h b r = Accepts (state (session h.frame.now h.reader.now (fresh_with h.lf)) b) r.buffer.now r.at
 
 -- ---- some bytes of the input
 
@@ -68,7 +68,7 @@ pub record QuietTurn (s : State) (input : List ℕ) (from : ℕ) (t : Turn) (p :
 -- the same, whatever the PAD is whose parameter 13 it goes by
 abbrev pub QuietTurns : Start → Screen → Turn → Screen → Type 0
 QuietTurns h b t b' =
-    (p : Pad) → prints_lf p.values ≡ h.lf → QuietTurn (state (session h.frame h.reader p) b) h.input.now h.from t p b'
+    (p : Pad) → prints_lf p.values ≡ h.lf → QuietTurn (state (session h.frame.now h.reader.now p) b) h.input.now h.from t p b'
 
 -- what one byte tells
 unfoldable pub told_of : Reader → ℕ → ℕ → Told
@@ -94,18 +94,18 @@ pub record Tells (r : Reader) (input : List ℕ) (from : ℕ) (t : Told) : Type 
   pub unasked : (option : ℕ) → t.event ≡ End option → is_x3 option ≡ false
 
 abbrev pub TellsNext : Start → Told → Type 0
-TellsNext h t = Tells h.reader h.input.now h.from t
+TellsNext h t = Tells h.reader.now h.input.now h.from t
 
 -- what is done on it
 abbrev pub effect_at : Start → Told → List ℕ → Effect
-effect_at h t attrs = det_effect (view h.frame attrs) h.lf t.held h.reader.cr t.event
+effect_at h t attrs = det_effect (view h.frame.now attrs) h.lf t.held h.reader.now.cr t.event
 
 -- A turn, whatever the PAD is whose parameter 13 it goes by: the PAD is then told what was told last.
 abbrev pub Turns : Start → Screen → Reply → Turn → Screen → Reply → Type 0
 Turns h b r t b' r' =
-    (p : Pad) → prints_lf p.values ≡ h.lf → Accepts (state (session h.frame h.reader p) b) r.buffer.now r.at
-    → Taking (state (session h.frame h.reader p) b) h.input.now h.from r
-    (state (session t.frame t.reader (pad_after h.frame p t.event)) b') t.end r'
+    (p : Pad) → prints_lf p.values ≡ h.lf → Accepts (state (session h.frame.now h.reader.now p) b) r.buffer.now r.at
+    → Taking (state (session h.frame.now h.reader.now p) b) h.input.now h.from r
+    (state (session t.frame t.reader (pad_after h.frame.now p t.event)) b') t.end r'
 
 -- ---- what a call comes to
 

@@ -36,9 +36,7 @@ fn take_all(
         ≡ host_taken (state session (lent chars.old attrs.old marks.old)) reply.old input.now }
 {
     let room = reply_room(session.frame);
-    let mut frame = session.frame;
-    let mut reader = session.reader;
-    let mut pad = session.pad;
+    let mut now = session;
     let mut from = 0;
     let mut reply = Reply {
         buffer: reply,
@@ -49,34 +47,34 @@ fn take_all(
         if reply.room() < room {
             break;
         }
-        if in_message(reader.phase) {
-            let one = take_byte(frame, reader, pad, input[from], &mut reply);
+        if in_message(now.reader.phase) {
+            let one = take_byte(now.frame, now.reader, now.pad, input[from], &mut reply);
             from += 1;
-            reader = one.reader;
-            pad = one.pad;
-            lf = prints_lf(pad.values);
+            now.reader = one.reader;
+            now.pad = one.pad;
+            lf = prints_lf(now.pad.values);
             continue;
         }
         let start = Start {
             input,
             from,
-            frame: &frame,
-            reader: &reader,
+            frame: &now.frame,
+            reader: &now.reader,
             lf,
         };
         let turn = take_turn(&start, chars, attrs, marks, &mut reply);
         from = turn.end;
-        reader = turn.reader;
+        now.reader = turn.reader;
         if ends_other(turn.event) {
-            pad.message = idle();
+            now.pad.message = idle();
         } else {
-            pad = pad_told(frame, pad, turn.event);
-            lf = prints_lf(pad.values);
+            now.pad = pad_told(now.frame, now.pad, turn.event);
+            lf = prints_lf(now.pad.values);
         }
-        frame = turn.frame;
+        now.frame = turn.frame;
     }
     Answer {
-        session: Session { frame, reader, pad },
+        session: now,
         verdict: Ok(()),
         taken: from,
         written: reply.at,

@@ -2,7 +2,7 @@ use Rattle.std.proofs.Common.{◌≡◌, refl, sym, ap, ◌∙◌, arith, rules}
 use Rattle.words.proofs.StoredLaws.{emitted_length}
 use Rattle.rules.proofs.Running.{taken_end, taken_full}
 use Rattle.pad.specs.Host.{prints_lf}
-use Rattle.rules.specs.declared.Pad.{Pad}
+use Rattle.rules.specs.declared.Session.{Session}
 use Rattle.rules.specs.Pad.{pad_after, with_message}
 use Rattle.local.proofs.ToldLaws.{other_clears}
 use Rattle.det.proofs.HostLaws.{accepts_turn, taking_none, taking_then, taking_room, taking_accepts, taking_done}
@@ -38,19 +38,25 @@ pub loop-from-preserved : goal.loop-from-preserved
 loop-from-preserved c =
     let i = c.loop-from.invariant in
     let a = taking_accepts i.0 c.requires (omega (arith, c.reply_room-room.ensures, c.room.ensures, c.if-room.false)) in
-    let told : c.if-ends_other.pad ≡ pad_after c.loop-from.frame c.loop-from.pad c.take_turn-turn.result.event =
+    let told : c.if-ends_other.now.pad ≡ pad_after c.loop-from.now.frame c.loop-from.now.pad c.take_turn-turn.result.event =
     elim c.if-ends_other.branch [
       | then-ends_other w ↦
-          w.pad-is ∙ ap (with_message c.loop-from.pad) w.idle-pad.ensures
+          ap (λ (s : Session). s.pad) w.now-is ∙ ap (with_message c.loop-from.now.pad) w.idle-now.ensures
           ∙ sym (other_clears _ _ _ (sym c.ends_other.ensures ∙ w.if-ends_other.true))
-      | else-ends_other w ↦ w.pad-is ∙ w.pad_told-pad.ensures
+      | else-ends_other w ↦ ap (λ (s : Session). s.pad) w.now-is ∙ w.pad_told-now.ensures
     ] in
-    let prints : c.if-ends_other.lf ≡ prints_lf c.if-ends_other.pad.values =
+    let reader : c.if-ends_other.now.reader ≡ c.take_turn-turn.result.reader =
     elim c.if-ends_other.branch [
-      | then-ends_other w ↦ w.lf-is ∙ i.4 ∙ ap (λ (p : Pad). prints_lf p.values) (sym w.pad-is)
-      | else-ends_other w ↦ w.lf-is ∙ w.prints_lf-lf-else-ends_other.ensures ∙ ap (λ (p : Pad). prints_lf p.values) (sym w.pad-is)
+      | then-ends_other w ↦ ap (λ (s : Session). s.reader) w.now-is
+      | else-ends_other w ↦ ap (λ (s : Session). s.reader) w.now-is
+    ] in
+    let prints : c.if-ends_other.lf ≡ prints_lf c.if-ends_other.now.pad.values =
+    elim c.if-ends_other.branch [
+      | then-ends_other w ↦ w.lf-is ∙ i.4 ∙ ap (λ (s : Session). prints_lf s.pad.values) (sym w.now-is)
+      | else-ends_other w ↦
+          w.lf-is ∙ w.prints_lf-lf-else-ends_other.ensures ∙ ap (λ (s : Session). prints_lf s.pad.values) (sym w.now-is)
     ] in (
-      taking_then i.0 (rw (← told) at (c.take_turn-turn.ensures.turns _ (sym i.4) a)),
+      taking_then i.0 (rw (← told, ← reader) at (c.take_turn-turn.ensures.turns _ (sym i.4) a)),
       search rules,
       search rules,
       search rules,

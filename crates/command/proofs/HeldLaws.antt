@@ -1,5 +1,5 @@
 -- Laws of the bytes of a subnegotiation: what is held so far is what the bytes so far leave, and of a whole one the first six are held.
-use Rattle.std.proofs.Common.{◌≡◌, refl, ◌∙◌, List, [], ◌∷◌, ◌++◌, ℕ, ◌+◌, ◌≤◌, ◌<◌, min, add-one, arith, length, get_or, take, take-suc, take_all}
+use Rattle.std.proofs.Common.{◌≡◌, refl, sym, ap, ◌∙◌, List, [], ◌∷◌, ◌++◌, ℕ, ◌+◌, ◌≤◌, ◌<◌, min, add-one, arith, length, get_or, le-ltb, drop, take, take-suc, take_all, take-append-drop}
 use Rattle.rules.specs.declared.Held.{Held}
 use Rattle.rules.specs.Session.{none_held}
 use Rattle.rules.specs.Telnet.{holding}
@@ -10,6 +10,16 @@ unfolding holding_all
 holding_next h [] b = refl
 holding_next h (x ∷ xs) b = holding_next (holding h x) xs b
 
+holding_append : (h : Held) (xs ys : List ℕ) → holding_all h (xs ++ ys) ≡ holding_all (holding_all h xs) ys
+unfolding holding_all
+holding_append h [] ys = refl
+holding_append h (x ∷ xs) ys = holding_append (holding h x) xs ys
+
+holding_full : (h : Held) (xs : List ℕ) → 6 ≤ h.count → holding_all h xs ≡ h
+unfolding holding_all holding
+holding_full h [] l = refl
+holding_full h (x ∷ xs) l = rw (le-ltb h.count 6 l) (holding_full h xs l)
+
 module _ (bytes : List ℕ) (h₀ : Held) {h : Held} (at : ℕ) (r : h ≡ holding_all h₀ (take at bytes)) where
   -- a byte more
   pub held_more : {h' : Held} → at < length bytes → h' ≡ holding h (get_or bytes at 0) → h' ≡ holding_all h₀ (take (at + 1) bytes)
@@ -18,6 +28,12 @@ module _ (bytes : List ℕ) (h₀ : Held) {h : Held} (at : ℕ) (r : h ≡ holdi
   -- all of them
   pub held_all : length bytes ≤ at → h ≡ holding_all h₀ bytes
   held_all l = rw (take_all at bytes l) at r
+
+  -- where six or more are, the rest leaves them
+  pub held_full : 6 ≤ h.count → h ≡ holding_all h₀ bytes
+  held_full l =
+      sym (holding_full h (drop at bytes) l) ∙ ap (λ (x : Held). holding_all x (drop at bytes)) r
+      ∙ sym (holding_append h₀ (take at bytes) (drop at bytes)) ∙ ap (holding_all h₀) (take-append-drop at bytes)
 
 -- ---- a whole one
 

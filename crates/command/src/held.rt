@@ -19,30 +19,36 @@ pub fn none() -> Held
     }
 }
 
-// One byte more where fewer than six are held.
+// One byte more where fewer than six are held, stored where they lie.
 #[tactic(auto, unfolding(rules::specs::Telnet::holding))]
+fn hold_here(held: &mut Held, byte: u8)
+    ensures { held.new ≡ holding held.old byte }
+{
+    if held.count < 6 {
+        held.bytes[held.count as usize] = byte;
+        held.count += 1;
+    }
+}
+
 pub fn hold(held: Held, byte: u8) -> Held
     ensures { result ≡ holding held byte }
 {
-    let Held { mut bytes, count } = held;
-    if count < 6 {
-        bytes[count as usize] = byte;
-        return Held {
-            bytes,
-            count: count + 1,
-        };
-    }
-    held
+    let mut after = held;
+    hold_here(&mut after, byte);
+    after
 }
 
-// What is held after these bytes, one after the other.
+// What is held after these bytes, one after the other: where six are held, no further one is looked at.
 #[tactic(auto, using(crate::proofs::HeldLaws::held_more, crate::proofs::HeldLaws::held_all), unfolding(crate::specs::Held::holding_all))]
 pub fn hold_all(held: Held, input: &[u8]) -> Held
     ensures { result ≡ holding_all held input.now }
 {
     let mut after = held;
     for byte in input {
-        after = hold(after, *byte);
+        if after.count >= 6 {
+            return after;
+        }
+        hold_here(&mut after, *byte);
     }
     after
 }

@@ -1,5 +1,5 @@
 -- Laws of bytes that draw no reply: stretches without an IAC, at rest and in a subnegotiation, and the opening of a whole one.
-use Rattle.std.proofs.Common.{◌≡◌, refl, ap, ◌∙◌, Bool, true, false, not, ◌&&◌, List, [], ◌∷◌, ℕ, suc, ◌+◌, ◌≤◌, ◌<◌, arith, ne_eqb, ltb, eqb, length, get_or}
+use Rattle.std.proofs.Common.{◌≡◌, refl, ap, ◌∙◌, Bool, true, false, not, ◌&&◌, List, [], ◌∷◌, ℕ, suc, ◌+◌, ◌≤◌, ◌<◌, add-zero, arith, ne_eqb, lt-ltb, ltb, eqb, length, get_or, drop-cons}
 use Rattle.words.proofs.Laws.{either, true_or_false}
 use Rattle.telnet.specs.declared.Phase.{Phase}
 use Rattle.telnet.specs.declared.Phase.TheVariants.{Rest, Iac, Negotiating, Opening, OpeningIac, Inside, InsideIac}
@@ -8,7 +8,7 @@ use Rattle.telnet.specs.declared.stretch.Stretch.{Stretch}
 use Rattle.telnet.specs.declared.ahead.WholeSub.{WholeSub}
 use Rattle.telnet.specs.declared.Step.{Step}
 use Rattle.telnet.specs.Reader.{iac, sb, se, after_iac, opening, inside, inside_iac, read_of, reader}
-use Rattle.telnet.specs.Stream.{data_end, part, stretch_of}
+use Rattle.telnet.specs.Stream.{before_iac, data_end, part, stretch_of}
 use Rattle.telnet.proofs.Laws.{No255}
 use Rattle.telnet.proofs.PartLaws.{part_none}
 use Rattle.telnet.proofs.AheadLaws.{Whole}
@@ -40,6 +40,12 @@ still s = record { state = s; replies = []; executed = [] }
 -- the reader stands in this phase
 abbrev standing : Frame → Phase → Held → Bool → Pad → Screen → State
 standing f phase held cr p b = state (session f (record { phase = phase; held = held; cr = cr }) p) b
+
+-- at an IAC there is no data
+pub stretch_none : (input : List ℕ) (from : ℕ) → from < length input → get_or input from 0 ≡ iac
+    → record { end = from; next = from + 1; phase = Iac } ≡ stretch_of Rest input from
+unfolding stretch_of data_end before_iac read_of
+stretch_none input from h e = rw (drop-cons input from 0 h, e, add-zero, lt-ltb from (length input) h)
 
 -- ---- one byte
 

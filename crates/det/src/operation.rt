@@ -14,7 +14,7 @@ use admit::open::refused;
 use admit::refuse::{refuse, reply_room};
 use decide::keys::{key_of, press, refuse_pressed};
 use local::message::take_byte;
-use local::told::{ends_other, pad_told};
+use local::told::{ends_other, tell};
 use local::typed::{echo_key, refuse_line, send_line, takes_key, type_key};
 use pad::host::prints_lf;
 use pad::message::idle;
@@ -68,7 +68,7 @@ fn take_all(
         if ends_other(turn.event) {
             now.pad.message = idle();
         } else {
-            now.pad = pad_told(now.frame, now.pad, turn.event);
+            tell(now.frame, &mut now.pad, turn.event);
             lf = prints_lf(now.pad.values);
         }
         now.frame = turn.frame;

@@ -1,6 +1,7 @@
 // Host bytes, a turn at a time: a stretch of data or of a subnegotiation's bytes, then a whole subnegotiation or one byte.
-ghost use Rattle.std.specs.Prelude.{◌≡◌, List, ℕ, ◌<◌};
+ghost use Rattle.std.specs.Prelude.{◌≡◌, List, ℕ, ◌<◌, length};
 ghost use Rattle.telnet.specs.declared.Phase.TheVariants.{Rest, Inside};
+ghost use Rattle.telnet.specs.Stream.{stretch_of};
 ghost use Rattle.rules.specs.Session.{Screen, screen};
 ghost use Rattle.command.specs.Frame.{lent, seen};
 ghost use Rattle.command.specs.Inner.Frame.{Fits};
@@ -21,7 +22,8 @@ use local::message::read_byte;
 use reply::Reply;
 use rules::{Frame, Held, Reader};
 use telnet::ahead::look_ahead;
-use telnet::stretch::{data_at, payload_at};
+use telnet::code::IAC;
+use telnet::stretch::{Stretch, data_at, payload_at};
 use telnet::{Event, Phase};
 use text::canvas::Canvas;
 
@@ -150,6 +152,22 @@ fn take_told(
     }
 }
 
+// The data ahead. Behind a command another one often stands, and then there is none to look for.
+#[tactic(auto, using(crate::proofs::QuietLaws::stretch_none))]
+fn data_ahead(input: &[u8], from: usize) -> Stretch
+    requires { from < length input.now }
+    ensures { result ≡ stretch_of Rest input.now from }
+{
+    if input[from] == IAC {
+        return Stretch {
+            end: from,
+            next: from + 1,
+            phase: Phase::Iac,
+        };
+    }
+    data_at(input, from)
+}
+
 // At rest: the data up to the next IAC, and that IAC.
 #[tactic(auto, using(crate::proofs::QuietLaws::lies))]
 fn take_text(here: &Start<'_>, chars: &mut [u8], attrs: &[u8]) -> Turn
@@ -157,7 +175,7 @@ fn take_text(here: &Start<'_>, chars: &mut [u8], attrs: &[u8]) -> Turn
     ensures { (marks : List ℕ) → QuietTurns here.now (screen chars.old attrs.now marks)
         result (screen chars.new attrs.now marks) }
 {
-    let stretch = data_at(here.input, here.from);
+    let stretch = data_ahead(here.input, here.from);
     let bytes = &here.input[here.from..stretch.end];
     let mut canvas = Canvas {
         frame: *here.frame,

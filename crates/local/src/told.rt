@@ -1,8 +1,7 @@
 // The PAD after what the reader told.
-ghost use Rattle.std.specs.Prelude.{◌≡◌, [], if◌then◌else◌};
-ghost use Rattle.pad.specs.Line.{line_of};
+ghost use Rattle.std.specs.Prelude.{◌≡◌, if◌then◌else◌};
 ghost use Rattle.pad.specs.Message.{idle_message, begun, after_byte, ended};
-ghost use Rattle.rules.specs.Pad.{is_x3, counts, empties, pad_after, with_line};
+ghost use Rattle.rules.specs.Pad.{is_x3, counts, empties, pad_after};
 ghost use Rattle.local.specs.Told.{ends_other};
 
 use command::number::X3;
@@ -55,20 +54,6 @@ fn is_emptied(frame: Frame, verb: Verb, option: u8) -> bool
     matches!(verb, Verb::Dont) && is_counted(frame, option)
 }
 
-// DONT 30 while it is on empties the edit line, unsent.
-fn negotiated_pad(frame: Frame, pad: Pad, verb: Verb, option: u8) -> Pad
-    ensures { result ≡ with_line pad (if empties frame verb option then line_of [] else pad.line) }
-{
-    if is_emptied(frame, verb, option) {
-        Pad {
-            line: EditLine::new(),
-            ..pad
-        }
-    } else {
-        pad
-    }
-}
-
 // Is it the end of a subnegotiation of another option? Then nothing of a message is half read, and the PAD is otherwise as before.
 #[tactic(auto, unfolding(crate::specs::Told::ends_other))]
 pub fn ends_other(event: Event) -> bool
@@ -80,30 +65,34 @@ pub fn ends_other(event: Event) -> bool
     }
 }
 
-// The PAD afterwards.
+// What the reader told, told to the PAD where it lies: most of it stays, and a copy of it is dear.
 #[tactic(auto, unfolding(rules::specs::Pad::pad_after))]
+pub fn tell(frame: Frame, pad: &mut Pad, event: Event)
+    ensures { pad.new ≡ pad_after frame pad.old event }
+{
+    match event {
+        Event::Nothing | Event::Data(_) => {}
+        // DONT 30 while it is on empties the edit line, unsent.
+        Event::Negotiation { verb, option } => {
+            if is_emptied(frame, verb, option) {
+                pad.line = EditLine::new();
+            }
+        }
+        Event::Begin(option) => pad.message = begun_message(pad.values, option),
+        Event::Sub { option, byte } => pad.message = read_message(pad.message, option, byte),
+        Event::End(option) => {
+            pad.values = ended_values(frame, *pad, option);
+            pad.message = idle();
+        }
+        Event::EndBare | Event::Lost => pad.message = idle(),
+    }
+}
+
+// The PAD afterwards.
 pub fn pad_told(frame: Frame, pad: Pad, event: Event) -> Pad
     ensures { result ≡ pad_after frame pad event }
 {
-    match event {
-        Event::Nothing | Event::Data(_) => pad,
-        Event::Negotiation { verb, option } => negotiated_pad(frame, pad, verb, option),
-        Event::Begin(option) => Pad {
-            message: begun_message(pad.values, option),
-            ..pad
-        },
-        Event::Sub { option, byte } => Pad {
-            message: read_message(pad.message, option, byte),
-            ..pad
-        },
-        Event::End(option) => Pad {
-            values: ended_values(frame, pad, option),
-            message: idle(),
-            ..pad
-        },
-        Event::EndBare | Event::Lost => Pad {
-            message: idle(),
-            ..pad
-        },
-    }
+    let mut after = pad;
+    tell(frame, &mut after, event);
+    after
 }

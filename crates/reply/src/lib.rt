@@ -5,6 +5,7 @@ ghost use Rattle.std.specs.Prelude.{◌≡◌, ◌-◌, length};
 ghost use Rattle.reply.specs.Pieces.{say_pieces};
 ghost use Rattle.reply.specs.Written.{Puts};
 
+use crate::transmission::transmit_code;
 use command::number::DET;
 use decide::decision::Say;
 use rules::Edition;
@@ -51,16 +52,16 @@ impl Reply<'_> {
             Say::Negotiation { verb, option } => self.put_negotiation(verb, option),
             Say::Two { code, a } => self.put_message(DET, &[code, a]),
             Say::Three { code, a, b } => self.put_message(DET, &[code, a, b]),
-            Say::Preface(place) => self.put_preface(edition, place),
+            Say::Preface(place) => self.put_preface(transmit_code(edition), place),
             Say::Text { place, from, end } => self.put_text(
-                edition,
+                transmit_code(edition),
                 place,
                 screen.chars,
                 from,
                 end,
             ),
             Say::Fields(place) => self.put_form(edition, place, screen),
-            Say::Modified { width } => self.put_modified(edition, width, screen),
+            Say::Modified { width } => self.put_modified(transmit_code(edition), width, screen),
         }
     }
 }

@@ -60,8 +60,13 @@ impl Reply<'_> {
         requires room { (cell + 32 ≤ length chars.now) × (self.old.at + 224 ≤ length self.old.buffer.now) }
         ensures { Puts self.old (single_pieces separator.code chars.now cell 32) self.new }
     {
+        let mut run = Reply {
+            buffer: &mut *self.buffer,
+            at: self.at,
+        };
         for i in 0..32 {
-            self.put_single(chars, cell + i, separator);
+            run.put_single(chars, cell + i, separator);
         }
+        self.at = run.at;
     }
 }

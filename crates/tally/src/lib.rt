@@ -77,13 +77,14 @@ impl<'a> Progress<'a> {
         }
     }
 
-    // One byte, by the reader.
-    fn byte(self) -> Self
-        requires { self.at < length self.input.now }
+    // One byte, by the reader. A caller that names the phase as a constant spares the test of it.
+    fn byte(self, phase: Phase) -> Self
+        requires here { phase ≡ self.phase }
+        requires more { self.at < length self.input.now }
         ensures same { result.input.now ≡ self.entry.input.now }
         ensures further { self.entry.at < result.at }
     {
-        let step = read(self.phase, self.input[self.at]);
+        let step = read(phase, self.input[self.at]);
         Progress {
             input: self.input,
             phase: step.phase,
@@ -128,16 +129,28 @@ impl<'a> Progress<'a> {
         }
     }
 
-    // A stretch where the reader stands in one, and after data the subnegotiation ahead if that is whole; else a byte.
+    // The byte after an IAC, where one is left.
+    fn after_iac(self) -> Self
+        ensures same { result.input.now ≡ self.entry.input.now }
+        ensures forth { self.entry.at ≤ result.at }
+    {
+        match self.phase {
+            Phase::Iac if self.at < self.input.len() => self.byte(Phase::Iac),
+            _ => self,
+        }
+    }
+
+    // A stretch where the reader stands in one, and after data the subnegotiation ahead if that is whole, or the byte after the
+    // IAC; else a byte.
     fn turn(self) -> Self
         requires { self.at < length self.input.now }
         ensures same { result.input.now ≡ self.entry.input.now }
         ensures further { self.entry.at < result.at }
     {
         match self.phase {
-            Phase::Rest => self.stretch().whole_sub(),
+            Phase::Rest => self.stretch().whole_sub().after_iac(),
             Phase::Inside(_) => self.stretch(),
-            _ => self.byte(),
+            _ => self.byte(self.phase),
         }
     }
 }

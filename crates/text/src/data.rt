@@ -93,6 +93,8 @@ impl Canvas<'_> {
 
     // Data does what its bytes do one after the other. Where `joins`, an LF right after a CR is passed over, and `cr` tells whether a CR
     // came last before the first byte. A step is a byte, or as many characters as stand in a row: one alone is not worth a copy.
+    // It stays a function of its own, so that the cursor keeps its registers.
+    #[inline(never)]
     #[tactic(auto, using(crate::proofs::PlainLaws::each_row))]
     pub fn host_text(&mut self, joins: bool, cr: bool, bytes: &[u8])
         ensures { Draws (host_text (shown self.old) (obeyed_bytes joins cr bytes.now)) self.old self.new }

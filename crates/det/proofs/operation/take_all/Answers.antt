@@ -43,7 +43,7 @@ loop-from-preserved c =
       | then-ends_other w ↦
           ap (λ (s : Session). s.pad) w.now-is ∙ ap (with_message c.loop-from.now.pad) w.idle-now.ensures
           ∙ sym (other_clears _ _ _ (sym c.ends_other.ensures ∙ w.if-ends_other.true))
-      | else-ends_other w ↦ ap (λ (s : Session). s.pad) w.now-is ∙ w.pad_told-now.ensures
+      | else-ends_other w ↦ ap (λ (s : Session). s.pad) w.now-is ∙ w.tell.ensures
     ] in
     let reader : c.if-ends_other.now.reader ≡ c.take_turn-turn.result.reader =
     elim c.if-ends_other.branch [

@@ -7,5 +7,5 @@ pub returns : goal.returns
 returns c marks p prints =
     let here = c.args.here.now in
     let done = c.take_bytes-cr.ensures in
-    text_turn here.more _ c.data_at-stretch.ensures c.requires refl _ (joins_by here.frame.now p prints)
+    text_turn here.more _ c.data_ahead-stretch.ensures c.requires refl _ (joins_by here.frame.now p prints)
     (draws_end done.draws (search rules)) done.ends
